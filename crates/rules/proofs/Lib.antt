@@ -1,3 +1,7 @@
 -- Laws of the definitions, by subject; what was promised, in Demands.
+pub mod Logic
 pub mod Bits
+pub mod Rows
+pub mod Orders
+pub mod Smallest
 pub mod Table

@@ -1,7 +1,7 @@
 -- DIMACS CNF, read strictly. A text is a run of bytes.
 use mathlib.Core.Bool.{Bool, true, false, not, cond, _&&_, _||_}
 use mathlib.Core.List.{List, [], _∷_}
-use mathlib.Core.Option.{Option, none, some}
+use mathlib.Core.Option.{Option, none, some, Option·getD}
 use Prim.Native.Char.{code}
 use Prim.Native.Nat.{ℕ, zero, suc, _+_, _-_, _*_}
 use Prim.Native.String.{String}
@@ -15,122 +15,96 @@ use Rattle.rules.specs.Sheets.{maxClauses}
 abbrev pub maxBytes : ℕ
 maxBytes = 32768
 
--- The bytes of a text in ASCII, and some by name.
+-- A text's bytes in ASCII, and some kinds of byte.
 abbrev pub ascii : String → List ℕ
 ascii String.[] = []
 ascii (String._∷_ c s) = code c ∷ ascii s
 
-abbrev pub tab : ℕ
-tab = 9
-
-abbrev pub lineFeed : ℕ
-lineFeed = 10
-
-abbrev pub carriageReturn : ℕ
-carriageReturn = 13
-
-abbrev pub space : ℕ
-space = 32
-
-abbrev pub percent : ℕ
-percent = 37
-
-abbrev pub minus : ℕ
-minus = 45
-
-abbrev pub nought : ℕ
-nought = 48
-
-abbrev pub letterC : ℕ
-letterC = 99
-
 abbrev pub isDigit : ℕ → Bool
-isDigit b = leb nought b && leb b 57
+isDigit b = leb (code "0") b && leb b (code "9")
+
+abbrev pub isGap : ℕ → Bool
+isGap b = eqb b (code " ") || eqb b (code "\t")
 
 abbrev pub isBlank : ℕ → Bool
-isBlank b = (eqb b space || eqb b tab) || (eqb b carriageReturn || eqb b lineFeed)
+isBlank b = isGap b || (eqb b (code "\r") || eqb b (code "\n"))
 
--- A step of a reader gives what it read and the text that is left, or nothing where the text is not in form.
+abbrev pub notBlank : ℕ → Bool
+notBlank b = not (isBlank b)
+
+-- A step of a reader gives what it read or what is left of the text, or nothing where the text is not in form.
 infixl 20 _>>=_
 abbrev pub _>>=_ : {A B : Type 0} → Option A → (A → Option B) → Option B
 _>>=_ none f = none
 _>>=_ (some a) f = f a
 
--- What is left after the comment lines, each from a `c` to a line feed. `inside`: a comment line is being read.
+-- What is left after the comment lines, each from a `c` to a line feed. `inside`: such a line is being read.
 unfoldable pub afterComments : Bool → List ℕ → Option (List ℕ)
 afterComments true [] = none
-afterComments true (b ∷ t) = afterComments (not (eqb b lineFeed)) t
+afterComments true (b ∷ t) = afterComments (not (eqb b (code "\n"))) t
 afterComments false [] = some []
-afterComments false (b ∷ t) = let rest = afterComments true t in cond (eqb b letterC) rest (some (b ∷ t))
+afterComments false (b ∷ t) = let rest = afterComments true t in cond (eqb b (code "c")) rest (some (b ∷ t))
 
--- After these very bytes.
+-- What is left after these very bytes.
 unfoldable pub afterBytes : List ℕ → List ℕ → Option (List ℕ)
 afterBytes [] t = some t
 afterBytes (a ∷ more) [] = none
 afterBytes (a ∷ more) (b ∷ t) = let rest = afterBytes more t in cond (eqb a b) rest none
 
--- What is left after all bytes of a kind at the front; and after one or more spaces.
-unfoldable pub afterAll : (ℕ → Bool) → List ℕ → List ℕ
-afterAll kind [] = []
-afterAll kind (b ∷ t) = let rest = afterAll kind t in cond (kind b) rest (b ∷ t)
-
-abbrev pub spaces : List ℕ → Option (List ℕ)
-spaces [] = none
-spaces (b ∷ t) = cond (eqb b space) (some (afterAll (eqb space) t)) none
-
--- All bytes of a kind at the front.
+-- All bytes of a kind at the front of a text, and what is left after them.
 unfoldable pub front : (ℕ → Bool) → List ℕ → List ℕ
 front kind [] = []
 front kind (b ∷ t) = let rest = b ∷ front kind t in cond (kind b) rest []
 
--- A decimal without leading zeros: what its digits come to, behind what was read of it.
+unfoldable pub afterAll : (ℕ → Bool) → List ℕ → List ℕ
+afterAll kind [] = []
+afterAll kind (b ∷ t) = let rest = afterAll kind t in cond (kind b) rest (b ∷ t)
+
+-- What is left after one or more spaces.
+abbrev pub afterSpaces : List ℕ → Option (List ℕ)
+afterSpaces t = afterBytes (ascii " ") t >>= λ rest. some (afterAll (eqb (code " ")) rest)
+
+-- What a decimal without leading zeros comes to; `sum`: what the digits before came to.
 unfoldable pub digitsFrom : ℕ → List ℕ → Option ℕ
-digitsFrom read [] = some read
-digitsFrom read (b ∷ t) = let rest = digitsFrom (read * 10 + (b - nought)) t in cond (isDigit b) rest none
+digitsFrom sum [] = some sum
+digitsFrom sum (b ∷ t) = let rest = digitsFrom (sum * 10 + (b - code "0")) t in cond (isDigit b) rest none
 
 abbrev pub decimal : List ℕ → Option ℕ
 decimal [] = none
 decimal (b ∷ []) = digitsFrom 0 (b ∷ [])
-decimal (b ∷ c ∷ t) = cond (eqb b nought) none (digitsFrom 0 (b ∷ c ∷ t))
+decimal (b ∷ c ∷ t) = cond (eqb b (code "0")) none (digitsFrom 0 (b ∷ c ∷ t))
 
--- A decimal in low..high.
 abbrev pub within : ℕ → ℕ → ℕ → Option ℕ
 within low high m = cond (leb low m && leb m high) (some m) none
 
--- What is left after the header's end: spaces and tabs, a carriage return, and a line feed or the end of the text.
-abbrev pub afterReturn : List ℕ → List ℕ
-afterReturn [] = []
-afterReturn (b ∷ t) = cond (eqb b carriageReturn) t (b ∷ t)
-
-abbrev pub afterLineFeed : List ℕ → Option (List ℕ)
-afterLineFeed [] = some []
-afterLineFeed (b ∷ t) = cond (eqb b lineFeed) (some t) none
+-- The header's end: spaces and tabs, an optional carriage return, and a line feed or the end of the text.
+abbrev pub lineEnd : List ℕ → Option (List ℕ)
+lineEnd [] = some []
+lineEnd (b ∷ t) = afterBytes (ascii "\n") (b ∷ t)
 
 abbrev pub headerEnd : List ℕ → Option (List ℕ)
-headerEnd t = afterLineFeed (afterReturn (afterAll (λ b. eqb b space || eqb b tab) t))
+headerEnd t = let rest = afterAll isGap t in lineEnd (Option·getD (afterBytes (ascii "\r") rest) rest)
 
+-- `p`, spaces, `cnf`, spaces, V, spaces, C, and the header's end; then the body.
 pub record Header : Type 0 where
   pub inputs : ℕ
   pub clauses : ℕ
   pub body : List ℕ
 
--- `p`, spaces, `cnf`, spaces, V, spaces, C, and the header's end.
 unfoldable pub header : List ℕ → Option Header
 header text = do
   t ← afterComments false text
   t ← afterBytes (ascii "p") t
-  t ← spaces t
+  t ← afterSpaces t
   t ← afterBytes (ascii "cnf") t
-  t ← spaces t
-  v ← decimal (front isDigit t)
-  v ← within 1 maxInputs v
-  t ← spaces (afterAll isDigit t)
-  c ← decimal (front isDigit t)
-  c ← within 0 maxClauses c
+  t ← afterSpaces t
+  v ← decimal (front isDigit t) >>= within 1 maxInputs
+  t ← afterSpaces (afterAll isDigit t)
+  c ← decimal (front isDigit t) >>= within 0 maxClauses
   t ← headerEnd (afterAll isDigit t)
   some (record { inputs = v; clauses = c; body = t })
 
--- A body token: `%`; a number in form, `0` or an optional minus with 1..V; or anything else.
+-- A body token: a number in form, `0` or an optional minus with 1..V; `%`; or anything else.
 pub data Token : Type 0 where
   number : ℤ → Token
   ends : Token
@@ -140,56 +114,45 @@ abbrev pub signed : (ℕ → ℤ) → Option ℕ → Token
 signed sign none = other
 signed sign (some m) = number (sign m)
 
-abbrev pub isPercent : List ℕ → Bool
-isPercent [] = false
-isPercent (b ∷ []) = eqb b percent
-isPercent (b ∷ c ∷ t) = false
-
-abbrev pub numberOf : ℕ → List ℕ → Token
-numberOf v [] = other
-numberOf v (b ∷ t) =
-    cond (eqb b minus)
-    (signed (λ m. negsuc (m - 1)) (decimal t >>= within 1 v))
-    (signed pos (decimal (b ∷ t) >>= within 0 v))
-
 abbrev pub tokenOf : ℕ → List ℕ → Token
-tokenOf v w = cond (isPercent w) ends (numberOf v w)
+tokenOf v [] = other
+tokenOf v (b ∷ []) = cond (eqb b (code "%")) ends (signed pos (decimal (b ∷ []) >>= within 0 v))
+tokenOf v (b ∷ c ∷ t) =
+    cond (eqb b (code "-")) (signed (λ m. negsuc (m - 1)) (decimal (c ∷ t) >>= within 1 v))
+    (signed pos (decimal (b ∷ c ∷ t) >>= within 0 v))
 
--- The tokens of a text: its runs of other bytes, parted by blanks. A byte that is no blank begins a token or belongs to the next one.
-abbrev pub inToken : List ℕ → Bool
-inToken [] = false
-inToken (b ∷ t) = not (isBlank b)
+-- The tokens of a text are its runs of other bytes, parted by blanks: each begins a token or belongs to the next one.
+abbrev pub beginsToken : List ℕ → Bool
+beginsToken [] = false
+beginsToken (b ∷ t) = notBlank b
 
-abbrev pub before : ℕ → Bool → List (List ℕ) → List (List ℕ)
-before b true [] = (b ∷ []) ∷ []
-before b true (w ∷ ws) = (b ∷ w) ∷ ws
-before b false ws = (b ∷ []) ∷ ws
+abbrev pub joinToken : ℕ → Bool → List (List ℕ) → List (List ℕ)
+joinToken b true [] = (b ∷ []) ∷ []
+joinToken b true (w ∷ ws) = (b ∷ w) ∷ ws
+joinToken b false ws = (b ∷ []) ∷ ws
 
 unfoldable pub tokens : List ℕ → List (List ℕ)
 tokens [] = []
-tokens (b ∷ t) = let rest = tokens t in cond (isBlank b) rest (before b (inToken t) rest)
+tokens (b ∷ t) = let rest = tokens t in cond (isBlank b) rest (joinToken b (beginsToken t) rest)
 
 -- The numbers of a body's tokens, up to `%` or the end; nothing where a token is not in form.
-abbrev pub joined : Token → Option (List ℤ) → Option (List ℤ)
-joined (number z) none = none
-joined (number z) (some zs) = some (z ∷ zs)
-joined ends later = some []
-joined other later = none
+abbrev pub joinNumber : Token → Option (List ℤ) → Option (List ℤ)
+joinNumber (number z) later = later >>= λ zs. some (z ∷ zs)
+joinNumber ends later = some []
+joinNumber other later = none
 
 unfoldable pub numbers : ℕ → List (List ℕ) → Option (List ℤ)
 numbers v [] = some []
-numbers v (w ∷ ws) = let later = numbers v ws in joined (tokenOf v w) later
+numbers v (w ∷ ws) = let later = numbers v ws in joinNumber (tokenOf v w) later
 
--- One step of the reader from a place in the text: the next token with the place behind it, or nothing where none is left.
+-- One step of the reader from a place in the text: the next token and the place behind it, or nothing where none is left.
 pub record Step : Type 0 where
   pub token : Token
   pub place : ℕ
 
 abbrev pub stepIn : ℕ → ℕ → List ℕ → Option Step
 stepIn v size [] = none
-stepIn v size (b ∷ t) =
-    let rest = afterAll (λ c. not (isBlank c)) (b ∷ t) in
-    some (record { token = tokenOf v (front (λ c. not (isBlank c)) (b ∷ t)); place = size - length rest })
+stepIn v size (b ∷ t) = some (record { token = tokenOf v (front notBlank (b ∷ t)); place = size - length (afterAll notBlank (b ∷ t)) })
 
 unfoldable pub step : ℕ → List ℕ → ℕ → Option Step
 step v text place = stepIn v (length text) (afterAll isBlank (drop place text))

@@ -1,16 +1,17 @@
 -- PLA text: what is written for a list, and, apart from that, what a text says at a setting.
 use mathlib.Core.Bool.{Bool, true, false, not, cond, _&&_, _||_}
 use mathlib.Core.List.{List, [], _∷_, _++_}
+use Prim.Native.Char.{code}
 use Prim.Native.Nat.{ℕ, zero, suc, _+_, _/_, _%_}
 use lib.Dec.{eqb, ltb}
 use lib.ListN.{length}
 use Rattle.rules.specs.declared.Row.{Row}
 use Rattle.rules.specs.Words.{isOne, fixes}
-use Rattle.rules.specs.Dimacs.{ascii, space, lineFeed, minus, nought}
+use Rattle.rules.specs.Dimacs.{ascii}
 
 -- The digits of a number below 1,000, without leading zeros.
 abbrev pub digit : ℕ → ℕ
-digit d = nought + d % 10
+digit d = code "0" + d % 10
 
 unfoldable pub digits : ℕ → List ℕ
 digits m =
@@ -20,8 +21,8 @@ digits m =
 
 -- The characters of a setting's, and of a row's, variables v, v + 1 and so on, k of them.
 abbrev pub bitChar : Bool → ℕ
-bitChar true = 49
-bitChar false = nought
+bitChar true = code "1"
+bitChar false = code "0"
 
 unfoldable pub settingChars : ℕ → ℕ → ℕ → List ℕ
 settingChars v zero s = []
@@ -29,7 +30,7 @@ settingChars v (suc k) s = bitChar (isOne v s) ∷ settingChars (suc v) k s
 
 unfoldable pub rowChars : ℕ → ℕ → Row → List ℕ
 rowChars v zero r = []
-rowChars v (suc k) r = cond (fixes r v) (bitChar (isOne v (r .value))) minus ∷ rowChars (suc v) k r
+rowChars v (suc k) r = cond (fixes r v) (bitChar (isOne v (r .value))) (code "-") ∷ rowChars (suc v) k r
 
 -- `.i n`, `.o 1`, `.p count`, a line for each row, `.e`.
 unfoldable pub rowLines : ℕ → List Row → List ℕ
@@ -47,11 +48,11 @@ intoLine b (l ∷ ls) = (b ∷ l) ∷ ls
 
 unfoldable pub lines : List ℕ → List (List ℕ)
 lines [] = []
-lines (b ∷ t) = let rest = lines t in cond (eqb b lineFeed) ([] ∷ rest) (intoLine b rest)
+lines (b ∷ t) = let rest = lines t in cond (eqb b (code "\n")) ([] ∷ rest) (intoLine b rest)
 
 -- A character agrees with a variable's value.
 abbrev pub agrees : ℕ → Bool → Bool
-agrees ch b = eqb ch minus || eqb ch (bitChar b)
+agrees ch b = eqb ch (code "-") || eqb ch (bitChar b)
 
 -- What follows a row's space is a lone 1.
 abbrev pub saysOne : List ℕ → Bool
@@ -62,12 +63,12 @@ saysOne (b ∷ c ∷ l) = false
 -- What is left of a row's line, from the character of variable v on, agrees with the setting and says 1.
 unfoldable pub lineHolds : ℕ → List ℕ → ℕ → Bool
 lineHolds v [] s = false
-lineHolds v (ch ∷ l) s = let later = lineHolds (suc v) l s in cond (eqb ch space) (saysOne l) (agrees ch (isOne v s) && later)
+lineHolds v (ch ∷ l) s = let later = lineHolds (suc v) l s in cond (eqb ch (code " ")) (saysOne l) (agrees ch (isOne v s) && later)
 
 -- A line that begins with a dot is no row.
 abbrev pub isRowLine : List ℕ → Bool
 isRowLine [] = false
-isRowLine (b ∷ l) = not (eqb b 46)
+isRowLine (b ∷ l) = not (eqb b (code "."))
 
 unfoldable pub someLine : List (List ℕ) → ℕ → Bool
 someLine [] s = false

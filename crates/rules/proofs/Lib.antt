@@ -4,4 +4,9 @@ pub mod Bits
 pub mod Rows
 pub mod Orders
 pub mod Smallest
+pub mod Widening
+pub mod Generation
+pub mod Pruning
+pub mod Counting
+pub mod Same
 pub mod Table

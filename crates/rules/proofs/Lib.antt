@@ -3,5 +3,6 @@ pub mod Logic
 pub mod Bits
 pub mod Rows
 pub mod Orders
+pub mod Reach
 pub mod Smallest
 pub mod Table

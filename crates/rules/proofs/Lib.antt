@@ -3,6 +3,7 @@ pub mod Logic
 pub mod Bits
 pub mod Rows
 pub mod Orders
+pub mod Reach
 pub mod Smallest
 pub mod Widening
 pub mod Generation

@@ -5,3 +5,6 @@ pub mod Rows
 pub mod Orders
 pub mod Smallest
 pub mod Table
+pub mod Lines
+pub mod PlaText
+pub mod Tokens

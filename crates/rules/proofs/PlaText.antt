@@ -5,6 +5,7 @@ use mathlib.Core.List.{List, [], _∷_, _++_, append-assoc}
 use mathlib.Core.Option.{some}
 use Prim.Native.Char.{code}
 use Prim.Native.Nat.{ℕ, zero, suc, _+_, _-_, _*_, _^_, _≤_, _<_}
+use native.Mathlib.Nat.{suc-mul, mul-le-mul}
 use native.Mathlib.Omega.{arith}
 use lib.Bits.{bitAnd}
 use lib.Dec.{eqb, leb, ltb}
@@ -15,7 +16,7 @@ use Rattle.rules.specs.Words.{isOne, fits, holds, isRow, fixes, inSome}
 use Rattle.rules.specs.Calls.{areRows}
 use Rattle.rules.specs.Dimacs.{ascii, digitsFrom}
 use Rattle.rules.specs.Pla.{digits, bitChar, rowChars, rowLines, textOf, lines, agrees, saysOne, lineHolds, isRowLine, someLine, readAt}
-use Rattle.rules.proofs.Logic.{test, clash, and-both, and-join, both-ways, yes-not}
+use Rattle.rules.proofs.Logic.{test, clash, and-both, and-join, both-ways, yes-not, some-inj}
 use Rattle.rules.proofs.Bits.{bit, bit-and, bit-high}
 use Rattle.rules.proofs.Rows.{holds-bits, bits-holds}
 use Rattle.rules.proofs.Lines.{plain, plain-more, plain-append, lines-line, digits-plain, digits-read, digits-two, digits-three}
@@ -155,3 +156,41 @@ text-reads n rows l h s b =
     ∙ some-dot (ascii "o 1") (ascii "." ++ (count ++ (code "\n" ∷ body))) s refl
     ∙ some-dot count body s (digits-plain (length rows))
     ∙ some-rows n rows s l h
+
+-- equal texts mean equal values
+pub text-same-value : (n : ℕ) (xs ys : List Row) → 1 ≤ n → areRows n xs ≡ true → areRows n ys ≡ true → textOf n xs ≡ textOf n ys
+  → (s : ℕ) → s < 2 ^ n → inSome xs s ≡ inSome ys s
+text-same-value n xs ys l p q e s b = sym (text-reads n xs l p s b) ∙ ap (λ t. readAt t s) e ∙ text-reads n ys l q s b
+
+-- a text's first line names its inputs, so equal texts have equal inputs
+text-first : (n : ℕ) (rows : List Row) → (rest : List (List ℕ)) × (lines (textOf n rows) ≡ (ascii ".i " ++ digits n) ∷ rest)
+unfolding textOf plain
+text-first n rows =
+    let rest = ascii ".o 1\n.p " ++ (digits (length rows) ++ (ascii "\n" ++ (rowLines n rows ++ ascii ".e\n"))) in
+    (lines rest, lines-line (ascii ".i " ++ digits n) rest (digits-plain n))
+
+pub text-inputs : (n m : ℕ) (xs ys : List Row) → n ≤ 24 → m ≤ 24 → textOf n xs ≡ textOf m ys → n ≡ m
+text-inputs n m xs ys a b e =
+    let same : digits n ≡ digits m = cc (text-first n xs .1, text-first m ys .1) in
+    some-inj (sym (digits-read n (omega arith)) ∙ ap (digitsFrom 0) same ∙ digits-read m (omega arith))
+
+-- the bytes of a row, of all rows, and of a text
+pub row-size : (v k : ℕ) (r : Row) → length (rowChars v k r) ≡ k
+unfolding rowChars
+row-size v zero r = refl
+row-size v (suc k) r = ap suc (row-size (suc v) k r)
+
+pub rows-size : (n : ℕ) (rows : List Row) → length (rowLines n rows) ≡ length rows * (n + 3)
+unfolding rowLines
+rows-size n [] = omega arith
+rows-size n (r ∷ rows) = simp (length-append, row-size) (omega (arith, rows-size n rows, suc-mul (length rows) (n + 3)))
+
+pub text-size : (n : ℕ) (rows : List Row) → length (textOf n rows) ≡ 16 + length (digits n) + length (digits (length rows)) + length rows * (n + 3)
+unfolding textOf
+text-size n rows = simp length-append (omega (arith, rows-size n rows))
+
+-- the longest text
+pub text-most : (n : ℕ) (rows : List Row) → n ≤ 24 → length rows ≤ 256 → length (textOf n rows) ≤ 6933
+text-most n rows a b =
+    let most : length rows * (n + 3) ≤ 256 * 27 = mul-le-mul {m₂ = 27} b (omega arith) in
+    omega (arith, text-size n rows, digits-two n (omega arith), digits-three (length rows))

@@ -1,14 +1,14 @@
 -- The lines of a PLA text, and the digits of its numbers.
 use mathlib.Core.Path.{_≡_, refl, ap, _∙_}
-use mathlib.Core.Bool.{Bool, true, false, not, cond, _&&_}
+use mathlib.Core.Bool.{Bool, true, false, not, _&&_}
 use mathlib.Core.List.{List, [], _∷_, _++_}
-use mathlib.Core.Option.{Option, none, some}
+use mathlib.Core.Option.{Option, some}
 use Prim.Native.Char.{code}
-use Prim.Native.Nat.{ℕ, zero, suc, _+_, _-_, _*_, _/_, _%_, _≤_, _<_}
+use Prim.Native.Nat.{ℕ, _+_, _-_, _*_, _/_, _%_, _≤_, _<_}
 use native.Mathlib.Omega.{arith}
-use lib.Dec.{eqb, leb, ltb}
+use lib.Dec.{eqb, ltb}
 use lib.ListN.{length}
-use borrow.Author.Tests.{ne-eqb, le-leb, ltb-true, ltb-false, lt-ltb}
+use borrow.Author.Tests.{ne-eqb, le-leb, ltb-true, ltb-false}
 use Rattle.rules.specs.Dimacs.{isDigit, digitsFrom}
 use Rattle.rules.specs.Pla.{digit, digits, intoLine, lines}
 use Rattle.rules.proofs.Logic.{test, and-both, and-join, not-yes, yes-not}
@@ -43,9 +43,9 @@ digit-plain d = ne-eqb (digit d) 10 (omega arith)
 pub digit-digit : (d : ℕ) → isDigit (digit d) ≡ true
 digit-digit d = and-join (le-leb 48 (digit d) (omega arith)) (le-leb (digit d) 57 (omega arith))
 
--- the three cases of a number's digits
+-- a number has one digit, two or three
 pub digits-cases {ℓ} : (P : List ℕ → Type ℓ) (m : ℕ) → (m < 10 → P (digit m ∷ [])) → (10 ≤ m → m < 100 → P (digit (m / 10) ∷ digit m ∷ []))
-  → (100 ≤ m → P (digit (m / 100) ∷ digit (m / 10) ∷ digit m ∷ [])) → P (digits m)
+    → (100 ≤ m → P (digit (m / 100) ∷ digit (m / 10) ∷ digit m ∷ [])) → P (digits m)
 unfolding digits
 digits-cases P m f g h =
     test (ltb m 10) (λ p. rw p (f (ltb-true m 10 p))) λ p.

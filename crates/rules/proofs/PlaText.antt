@@ -1,38 +1,37 @@
 -- What a PLA text says, which inputs it names, and how long it is.
 use mathlib.Core.Path.{_≡_, refl, ap, sym, _∙_}
-use mathlib.Core.Bool.{Bool, true, false, not, cond, _&&_, _||_}
+use mathlib.Core.Bool.{Bool, true, false, cond, _&&_, _||_}
 use mathlib.Core.List.{List, [], _∷_, _++_, append-assoc}
-use mathlib.Core.Option.{some}
 use Prim.Native.Char.{code}
 use Prim.Native.Nat.{ℕ, zero, suc, _+_, _-_, _*_, _^_, _≤_, _<_}
 use native.Mathlib.Nat.{suc-mul, mul-le-mul}
 use native.Mathlib.Omega.{arith}
 use lib.Bits.{bitAnd}
-use lib.Dec.{eqb, leb, ltb}
+use lib.Dec.{eqb, ltb}
 use lib.ListN.{length, length-append}
 use borrow.Author.Tests.{eqb-true, eqb-false, ltb-true, ltb-false}
 use Rattle.rules.specs.declared.Row.{Row}
 use Rattle.rules.specs.Words.{isOne, fits, holds, isRow, fixes, inSome}
 use Rattle.rules.specs.Calls.{areRows}
 use Rattle.rules.specs.Dimacs.{ascii, digitsFrom}
-use Rattle.rules.specs.Pla.{digits, bitChar, rowChars, rowLines, textOf, lines, agrees, saysOne, lineHolds, isRowLine, someLine, readAt}
+use Rattle.rules.specs.Pla.{digits, bitChar, rowChars, rowLines, textOf, lines, agrees, lineHolds, isRowLine, someLine, readAt}
 use Rattle.rules.proofs.Logic.{test, clash, and-both, and-join, both-ways, yes-not, some-inj}
 use Rattle.rules.proofs.Bits.{bit, bit-and, bit-high}
 use Rattle.rules.proofs.Rows.{holds-bits, bits-holds}
 use Rattle.rules.proofs.Lines.{plain, plain-more, plain-append, lines-line, digits-plain, digits-read, digits-two, digits-three}
 
 -- a row's character for a variable that it fixes or not, and at this value
-abbrev pub rowChar : Bool → Bool → ℕ
+abbrev rowChar : Bool → Bool → ℕ
 rowChar fixed value = cond fixed (bitChar value) (code "-")
 
 -- it is neither a line feed nor a space nor a dot
-pub char-kinds : (c v : Bool) → (eqb (rowChar c v) (code "\n") ≡ false) × (eqb (rowChar c v) (code " ") ≡ false) × (eqb (rowChar c v) (code ".") ≡ false)
+char-kinds : (c v : Bool) → (eqb (rowChar c v) (code "\n") ≡ false) × (eqb (rowChar c v) (code " ") ≡ false) × (eqb (rowChar c v) (code ".") ≡ false)
 char-kinds true true = (refl, refl, refl)
 char-kinds true false = (refl, refl, refl)
 char-kinds false v = (refl, refl, refl)
 
 -- it agrees with a setting's variable exactly if the row does; a value is one only where the variable is fixed
-pub char-agrees : (c v b : Bool) → (v && c) ≡ v → agrees (rowChar c v) b ≡ true → (b && c) ≡ v
+char-agrees : (c v b : Bool) → (v && c) ≡ v → agrees (rowChar c v) b ≡ true → (b && c) ≡ v
 char-agrees true true true r h = refl
 char-agrees true true false r h = h
 char-agrees true false true r h = sym h
@@ -41,13 +40,14 @@ char-agrees false true b r h = clash r refl
 char-agrees false false true r h = refl
 char-agrees false false false r h = refl
 
-pub agrees-char : (c v b : Bool) → (b && c) ≡ v → agrees (rowChar c v) b ≡ true
+agrees-char : (c v b : Bool) → (b && c) ≡ v → agrees (rowChar c v) b ≡ true
 agrees-char true true true h = refl
 agrees-char true true false h = h
 agrees-char true false true h = sym h
 agrees-char true false false h = refl
 agrees-char false v b h = refl
 
+-- so a row's characters hold no line feed
 rowChars-plain : (v k : ℕ) (r : Row) → plain (rowChars v k r) ≡ true
 unfolding rowChars plain
 rowChars-plain v zero r = refl
@@ -59,16 +59,17 @@ isOne-bit : (i w : ℕ) → isOne (suc i) w ≡ bit i w
 isOne-bit i w = let e : suc i - 1 ≡ i = omega arith in rw e
 
 -- a row's line from bit i on, of k variables
-abbrev pub lineFrom : ℕ → ℕ → Row → List ℕ
+abbrev lineFrom : ℕ → ℕ → Row → List ℕ
 lineFrom i k r = rowChars (suc i) k r ++ ascii " 1"
 
 -- row and setting agree at bit i; so does the character there
-abbrev pub Agree : Row → ℕ → ℕ → Type 0
+abbrev Agree : Row → ℕ → ℕ → Type 0
 Agree r s i = (bit i s && bit i (r .care)) ≡ bit i (r .value)
 
-abbrev pub charAgrees : Row → ℕ → ℕ → Bool
+abbrev charAgrees : Row → ℕ → ℕ → Bool
 charAgrees r s i = agrees (rowChar (bit i (r .care)) (bit i (r .value))) (bit i s)
 
+-- a line holds the setting if its first character agrees and so does the line from the next bit on
 line-step : (i k : ℕ) (r : Row) (s : ℕ) → lineHolds (suc i) (lineFrom i (suc k) r) s ≡ (charAgrees r s i && lineHolds (suc (suc i)) (lineFrom (suc i) k r) s)
 unfolding rowChars lineHolds
 line-step i k r s =
@@ -78,8 +79,9 @@ line-step i k r s =
 from-step : (P : ℕ → Type 0) (i k : ℕ) → P i → ((j : ℕ) → suc i ≤ j → j < suc i + k → P j) → (j : ℕ) → i ≤ j → j < i + suc k → P j
 from-step P i k p f j a b = test (eqb i j) (λ q. rw (← eqb-true i j q) p) λ q. let n = eqb-false i j q in f j (omega arith) (omega arith)
 
+-- a row's line holds a setting exactly if row and setting agree at each of its bits
 line-agrees : (i k : ℕ) (r : Row) (s : ℕ) → ((j : ℕ) → (bit j (r .value) && bit j (r .care)) ≡ bit j (r .value)) → lineHolds (suc i) (lineFrom i k r) s ≡ true
-  → (j : ℕ) → i ≤ j → j < i + k → Agree r s j
+    → (j : ℕ) → i ≤ j → j < i + k → Agree r s j
 line-agrees i zero r s u h j a b = let w : ⊥ = omega arith in absurd w
 line-agrees i (suc k) r s u h j a b =
     let g = and-both (charAgrees r s i) (lineHolds (suc (suc i)) (lineFrom (suc i) k r) s) (sym (line-step i k r s) ∙ h) in
@@ -103,7 +105,7 @@ pub line-holds : (n : ℕ) (r : Row) (s : ℕ) → isRow n r ≡ true → lineHo
 line-holds n r s h =
     let g = and-both (fits n (r .care)) (eqb (bitAnd (r .value) (r .care)) (r .value)) h in
     let u : (j : ℕ) → (bit j (r .value) && bit j (r .care)) ≡ bit j (r .value) =
-        λ j. sym (bit-and j (r .value) (r .care)) ∙ ap (bit j) (eqb-true (bitAnd (r .value) (r .care)) (r .value) (g .1)) in
+    λ j. sym (bit-and j (r .value) (r .care)) ∙ ap (bit j) (eqb-true (bitAnd (r .value) (r .care)) (r .value) (g .1)) in
     let high : (j : ℕ) → n ≤ j → bit j (r .care) ≡ false = λ j l. bit-high n j (r .care) (ltb-true (r .care) (2 ^ n) (g .0)) l in
     both-ways (lineHolds 1 (lineFrom 0 n r) s) (holds r s)
     (λ q. bits-holds r s λ j.
@@ -116,18 +118,19 @@ some-dot : (l t : List ℕ) (s : ℕ) → plain l ≡ true → someLine (lines (
 unfolding someLine plain
 some-dot l t s p = rw (lines-line (code "." ∷ l) t p)
 
--- a row's line says what the row says
+-- a row's line begins with no dot
 row-isLine : (n : ℕ) (r : Row) → 1 ≤ n → isRowLine (rowChars 1 n r ++ ascii " 1") ≡ true
 unfolding rowChars
 row-isLine zero r l = let w : ⊥ = omega arith in absurd w
 row-isLine (suc k) r l = yes-not (char-kinds (fixes r 1) (isOne 1 (r .value)) .2)
 
+-- such a line says what it holds; a row's line, what the row holds
 some-line : (l : List ℕ) (ls : List (List ℕ)) (s : ℕ) → isRowLine l ≡ true → someLine (l ∷ ls) s ≡ (lineHolds 1 l s || someLine ls s)
 unfolding someLine
 some-line l ls s p = rw p
 
 some-row : (n : ℕ) (r : Row) (t : List ℕ) (s : ℕ) → 1 ≤ n → isRow n r ≡ true
-  → someLine (lines (rowChars 1 n r ++ (ascii " 1\n" ++ t))) s ≡ (holds r s || someLine (lines t) s)
+    → someLine (lines (rowChars 1 n r ++ (ascii " 1\n" ++ t))) s ≡ (holds r s || someLine (lines t) s)
 unfolding plain
 some-row n r t s l h =
     let line = rowChars 1 n r ++ ascii " 1" in
@@ -159,7 +162,7 @@ text-reads n rows l h s b =
 
 -- equal texts mean equal values
 pub text-same-value : (n : ℕ) (xs ys : List Row) → 1 ≤ n → areRows n xs ≡ true → areRows n ys ≡ true → textOf n xs ≡ textOf n ys
-  → (s : ℕ) → s < 2 ^ n → inSome xs s ≡ inSome ys s
+    → (s : ℕ) → s < 2 ^ n → inSome xs s ≡ inSome ys s
 text-same-value n xs ys l p q e s b = sym (text-reads n xs l p s b) ∙ ap (λ t. readAt t s) e ∙ text-reads n ys l q s b
 
 -- a text's first line names its inputs, so equal texts have equal inputs

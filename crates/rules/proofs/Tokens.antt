@@ -52,8 +52,13 @@ token-last b p = rw p
 token-short : (b c : ℕ) (t : List ℕ) → isBlank b ≡ false → isBlank c ≡ true → FirstToken (b ∷ c ∷ t)
 token-short b c t p q =
     let e = ap (λ x. joinToken b x (tokens (c ∷ t))) (no-not q) in
-    cc (tokens-join b (c ∷ t) p, front-more notBlank b (c ∷ t) (yes-not p), front-end notBlank c t (no-not q),
-    after-more notBlank b (c ∷ t) (yes-not p), after-end notBlank c t (no-not q))
+    cc (
+      tokens-join b (c ∷ t) p,
+      front-more notBlank b (c ∷ t) (yes-not p),
+      front-end notBlank c t (no-not q),
+      after-more notBlank b (c ∷ t) (yes-not p),
+      after-end notBlank c t (no-not q),
+    )
 
 token-longer : (b c : ℕ) (t : List ℕ) → isBlank b ≡ false → isBlank c ≡ false → FirstToken (c ∷ t) → FirstToken (b ∷ c ∷ t)
 token-longer b c t p q h =

@@ -11,3 +11,6 @@ pub mod Pruning
 pub mod Counting
 pub mod Same
 pub mod Table
+pub mod Lines
+pub mod PlaText
+pub mod Tokens

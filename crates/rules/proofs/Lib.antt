@@ -5,3 +5,4 @@ pub mod Rows
 pub mod Orders
 pub mod Smallest
 pub mod Table
+pub mod Sole

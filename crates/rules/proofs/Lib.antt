@@ -6,3 +6,4 @@ pub mod Orders
 pub mod Smallest
 pub mod Table
 pub mod Sole
+pub mod Judged

@@ -81,82 +81,82 @@ second [] = 0
 second (v ∷ vs) = first vs
 
 -- The count of the rows.
-abbrev listOf : List ℕ → ListAnswer
-listOf vs = whole.Rows (first vs)
+abbrev listFrom : List ℕ → ListAnswer
+listFrom vs = whole.Rows (first vs)
 
-list-back : (a : ListAnswer) → answerOf listOf whole.Refused (listReply a) ≡ a
+list-back : (a : ListAnswer) → answerOf listFrom whole.Refused (listReply a) ≡ a
 list-back (whole.Rows count) = refl
-list-back (whole.Refused f) = refused-back listOf whole.Refused f
+list-back (whole.Refused f) = refused-back listFrom whole.Refused f
 
 pub list-sole : (a b : ListAnswer) → listReply a ≡ listReply b → a ≡ b
-list-sole = sole listReply (answerOf listOf whole.Refused) list-back
+list-sole = sole listReply (answerOf listFrom whole.Refused) list-back
 
 -- The count of the rows, and whether they are all.
-abbrev partialOf : List ℕ → PartialAnswer
-partialOf vs = part.Rows (first vs) (eqb (second vs) 1)
+abbrev partialFrom : List ℕ → PartialAnswer
+partialFrom vs = part.Rows (first vs) (eqb (second vs) 1)
 
-partial-back : (a : PartialAnswer) → answerOf partialOf part.Refused (partialReply a) ≡ a
+partial-back : (a : PartialAnswer) → answerOf partialFrom part.Refused (partialReply a) ≡ a
 partial-back (part.Rows count true) = refl
 partial-back (part.Rows count false) = refl
-partial-back (part.Refused f) = refused-back partialOf part.Refused f
+partial-back (part.Refused f) = refused-back partialFrom part.Refused f
 
 pub partial-sole : (a b : PartialAnswer) → partialReply a ≡ partialReply b → a ≡ b
-partial-sole = sole partialReply (answerOf partialOf part.Refused) partial-back
+partial-sole = sole partialReply (answerOf partialFrom part.Refused) partial-back
 
 -- The setting, or none.
-abbrev queryOf : List ℕ → QueryAnswer
-queryOf [] = query.Nothing
-queryOf (s ∷ vs) = query.Found (record { 0 = s })
+abbrev queryFrom : List ℕ → QueryAnswer
+queryFrom [] = query.Nothing
+queryFrom (s ∷ vs) = query.Found (record { 0 = s })
 
-query-back : (a : QueryAnswer) → answerOf queryOf query.Refused (queryReply a) ≡ a
+query-back : (a : QueryAnswer) → answerOf queryFrom query.Refused (queryReply a) ≡ a
 query-back (query.Found s) = refl
 query-back query.Nothing = refl
-query-back (query.Refused f) = refused-back queryOf query.Refused f
+query-back (query.Refused f) = refused-back queryFrom query.Refused f
 
 pub query-sole : (a b : QueryAnswer) → queryReply a ≡ queryReply b → a ≡ b
-query-sole = sole queryReply (answerOf queryOf query.Refused) query-back
+query-sole = sole queryReply (answerOf queryFrom query.Refused) query-back
 
 -- The count of the rows kept.
-abbrev pruneOf : List ℕ → PruneAnswer
-pruneOf vs = prune.Kept (first vs)
+abbrev pruneFrom : List ℕ → PruneAnswer
+pruneFrom vs = prune.Kept (first vs)
 
-prune-back : (a : PruneAnswer) → answerOf pruneOf prune.Refused (pruneReply a) ≡ a
+prune-back : (a : PruneAnswer) → answerOf pruneFrom prune.Refused (pruneReply a) ≡ a
 prune-back (prune.Kept count) = refl
-prune-back (prune.Refused f) = refused-back pruneOf prune.Refused f
+prune-back (prune.Refused f) = refused-back pruneFrom prune.Refused f
 
 pub prune-sole : (a b : PruneAnswer) → pruneReply a ≡ pruneReply b → a ≡ b
-prune-sole = sole pruneReply (answerOf pruneOf prune.Refused) prune-back
+prune-sole = sole pruneReply (answerOf pruneFrom prune.Refused) prune-back
 
 -- The value.
-abbrev valueOf : List ℕ → ValueAnswer
-valueOf vs = value.Value (eqb (first vs) 1)
+abbrev valueFrom : List ℕ → ValueAnswer
+valueFrom vs = value.Value (eqb (first vs) 1)
 
-value-back : (a : ValueAnswer) → answerOf valueOf value.Refused (valueReply a) ≡ a
+value-back : (a : ValueAnswer) → answerOf valueFrom value.Refused (valueReply a) ≡ a
 value-back (value.Value true) = refl
 value-back (value.Value false) = refl
-value-back (value.Refused f) = refused-back valueOf value.Refused f
+value-back (value.Refused f) = refused-back valueFrom value.Refused f
 
 pub value-sole : (a b : ValueAnswer) → valueReply a ≡ valueReply b → a ≡ b
-value-sole = sole valueReply (answerOf valueOf value.Refused) value-back
+value-sole = sole valueReply (answerOf valueFrom value.Refused) value-back
 
 -- The inputs, and the count of the numbers.
-abbrev readOf : List ℕ → ReadAnswer
-readOf vs = read.Sheet (first vs) (second vs)
+abbrev readFrom : List ℕ → ReadAnswer
+readFrom vs = read.Sheet (first vs) (second vs)
 
-read-back : (a : ReadAnswer) → answerOf readOf read.Refused (readReply a) ≡ a
+read-back : (a : ReadAnswer) → answerOf readFrom read.Refused (readReply a) ≡ a
 read-back (read.Sheet inputs count) = refl
-read-back (read.Refused f) = refused-back readOf read.Refused f
+read-back (read.Refused f) = refused-back readFrom read.Refused f
 
 pub read-sole : (a b : ReadAnswer) → readReply a ≡ readReply b → a ≡ b
-read-sole = sole readReply (answerOf readOf read.Refused) read-back
+read-sole = sole readReply (answerOf readFrom read.Refused) read-back
 
 -- The text's length.
-abbrev writeOf : List ℕ → WriteAnswer
-writeOf vs = write.Length (first vs)
+abbrev writeFrom : List ℕ → WriteAnswer
+writeFrom vs = write.Length (first vs)
 
-write-back : (a : WriteAnswer) → answerOf writeOf write.Refused (writeReply a) ≡ a
+write-back : (a : WriteAnswer) → answerOf writeFrom write.Refused (writeReply a) ≡ a
 write-back (write.Length count) = refl
-write-back (write.Refused f) = refused-back writeOf write.Refused f
+write-back (write.Refused f) = refused-back writeFrom write.Refused f
 
 pub write-sole : (a b : WriteAnswer) → writeReply a ≡ writeReply b → a ≡ b
-write-sole = sole writeReply (answerOf writeOf write.Refused) write-back
+write-sole = sole writeReply (answerOf writeFrom write.Refused) write-back

@@ -70,8 +70,8 @@ ascend-above k (c ∷ cs) d up i =
     let below = ltb-true k (c .reply .number) low in
     either i (λ q. subst (λ x. k < x .reply .number) (sym q) below) λ j. let above = ascend-above (c .reply .number) cs d more j in omega arith
 
-none-below : {c : Check} {cs : List Check} → ascendFrom (c .reply .number) cs ≡ true → (d : Check) → In d (c ∷ cs) → d .reply .number < c .reply .number → ⊥
-none-below {c} {cs} up d i l =
+none-below : (c : Check) (cs : List Check) → ascendFrom (c .reply .number) cs ≡ true → (d : Check) → In d (c ∷ cs) → d .reply .number < c .reply .number → ⊥
+none-below c cs up d i l =
     either i (λ q. let same : d .reply .number ≡ c .reply .number = ap (λ x. x .reply .number) q in omega arith)
     λ j. let above = ascend-above (c .reply .number) cs d up j in omega arith
 
@@ -84,13 +84,13 @@ pub record Lowest (cs : List Check) (r : Reply) : Type 0 where
   pub noneLower : (d : Check) → In d cs → d .reply .number < r .number → d .applies ≡ false
 
 lowest-here : {c : Check} {cs : List Check} {r : Reply} → ascendFrom (c .reply .number) cs ≡ true → c .applies ≡ true → c .reply ≡ r → Lowest (c ∷ cs) r
-lowest-here {c} up t e =
+lowest-here {c} {cs} up t e =
     record {
       check = c;
       stands = inl refl;
       applies = t;
       reply = e;
-      noneLower = λ d i l. absurd (none-below up d i (subst (λ x. d .reply .number < x .number) (sym e) l));
+      noneLower = λ d i l. absurd (none-below c cs up d i (subst (λ x. d .reply .number < x .number) (sym e) l));
     }
 
 lowest-later : {c : Check} {cs : List Check} {r : Reply} → c .applies ≡ false → Lowest cs r → Lowest (c ∷ cs) r

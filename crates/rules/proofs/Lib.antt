@@ -7,3 +7,4 @@ pub mod Smallest
 pub mod Table
 pub mod Sole
 pub mod Judged
+pub mod Refusals

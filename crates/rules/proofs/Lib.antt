@@ -10,7 +10,9 @@ pub mod Generation
 pub mod Pruning
 pub mod Counting
 pub mod Same
-pub mod Table
 pub mod Lines
 pub mod PlaText
 pub mod Tokens
+pub mod Sole
+pub mod Judged
+pub mod Table

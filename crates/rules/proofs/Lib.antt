@@ -15,4 +15,5 @@ pub mod PlaText
 pub mod Tokens
 pub mod Sole
 pub mod Judged
+pub mod Refusals
 pub mod Table

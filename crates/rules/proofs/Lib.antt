@@ -3,6 +3,7 @@ pub mod Logic
 pub mod Bits
 pub mod Rows
 pub mod Orders
+pub mod Fixed
 pub mod Reach
 pub mod Smallest
 pub mod Widening
@@ -16,4 +17,6 @@ pub mod Tokens
 pub mod Sole
 pub mod Judged
 pub mod Refusals
+pub mod Cut
+pub mod From
 pub mod Table

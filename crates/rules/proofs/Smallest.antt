@@ -1,8 +1,8 @@
 -- The smallest setting is the smallest: it passes, lies in the row, and none that does so is smaller; and none means none.
 use mathlib.Core.Path.{_≡_, refl, sym, ap, _∙_}
-use mathlib.Core.Bool.{Bool, true, false, not, _&&_}
+use mathlib.Core.Bool.{Bool, true, false}
 use mathlib.Core.List.{List, [], _∷_}
-use mathlib.Core.Option.{Option, none, some}
+use mathlib.Core.Option.{none, some}
 use Prim.Native.Nat.{ℕ, _^_, _<_, _≤_}
 use native.Mathlib.Omega.{arith}
 use lib.Dec.{ltb}
@@ -10,11 +10,13 @@ use borrow.Author.Tests.{ltb-true, ltb-false}
 use Rattle.rules.specs.declared.Row.{Row}
 use Rattle.rules.specs.Words.{fits, isOne, before, smaller, holds, isRow, dashes, atZero, atOne}
 use Rattle.rules.specs.Search.{found, smallest, holdsSome, notBelow}
-use Rattle.rules.proofs.Logic.{test, either, option, clash, some-none, and-both, fails}
+use Rattle.rules.proofs.Logic.{test, either, option, clash, and-both, fails}
 use Rattle.rules.proofs.Bits.{bit, bit-high, bit-below}
-use Rattle.rules.proofs.Rows.{dashes-row, dashes-holds}
+use Rattle.rules.proofs.Rows.{dashes-row}
 use Rattle.rules.proofs.Orders.{has, IsOrder}
-use Rattle.rules.proofs.Reach.{smallest-pass, smallest-try, orElse-some, Under, row-under, fixed-under, Reach, pass, turn, sound, missed, same, reach-held, reach-kept, reach-in, pass-bit, turn-bit}
+use Rattle.rules.proofs.Fixed.{Under, row-under, fixed-under}
+use Rattle.rules.proofs.Reach.{smallest-pass, smallest-try, orElse-some, Reach, pass, turn, sound, missed, same}
+use Rattle.rules.proofs.Reach.{reach-held, reach-kept, reach-in, pass-bit, turn-bit}
 
 before-same : (b c later : Bool) → b ≡ c → before b c later ≡ later
 before-same true true later e = refl

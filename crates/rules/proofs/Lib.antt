@@ -19,4 +19,6 @@ pub mod Judged
 pub mod Refusals
 pub mod Cut
 pub mod From
+pub mod Listed
+pub mod Demands
 pub mod Table

@@ -4,16 +4,19 @@ use mathlib.Core.Bool.{Bool, true, false, not, cond, _&&_}
 use mathlib.Core.List.{List, [], _∷_, _++_}
 use mathlib.Core.Option.{Option, none, some}
 use Prim.Native.Nat.{ℕ, zero, suc, _^_, _<_}
+use lib.Dec.{ltb}
+use lib.IntN.{ℤ}
 use lib.ListN.{length}
 use Rattle.rules.specs.declared.Row.{Row}
-use Rattle.rules.specs.Words.{isRow, dashes, full, without, inSome}
+use Rattle.rules.specs.Words.{isOrder, isRow, dashes, full, without, inSome}
+use Rattle.rules.specs.Sheets.{satisfies}
 use Rattle.rules.specs.Search.{smallest, found, holdsSome}
 use Rattle.rules.specs.Method.{maxRows, next, widenAt, widen, grown, generated, complete, pruned, all, listOf}
-use Rattle.rules.specs.Answers.{Check, judge, Verdict}
-use Rattle.rules.specs.Calls.{collision, wholeFor, Partial, partialFor}
-use Rattle.rules.proofs.Logic.{test, option}
+use Rattle.rules.specs.Answers.{Check, check, judge}
+use Rattle.rules.specs.Calls.{Run, refusal1, refusal2, refusal3, refusal4, notWellFormed, collision, wholeFor, whole, Partial, partialFor, partial}
+use Rattle.rules.proofs.Logic.{test, option, and-both, yes-not}
 use Rattle.rules.proofs.Rows.{dashes-row, without-row}
-use Rattle.rules.proofs.Orders.{IsOrder}
+use Rattle.rules.proofs.Orders.{IsOrder, is-order}
 use Rattle.rules.proofs.Smallest.{smallest-same}
 use Rattle.rules.proofs.Generation.{next-is, start-row}
 
@@ -78,3 +81,27 @@ module _ (n : ℕ) (order : List ℕ) (o : IsOrder n order) where
     pub partial-same : (form : List Check) (k room : ℕ) → partialFor form order on off k room ≡ partialFor form order on′ off′ k room
     unfolding partialFor
     partial-same form k room = rw (collision-same, complete-same k, generated-same k)
+
+-- Calls on sheets that are alike well formed and ask for the same settings.
+module _ (n : ℕ) (order : Run ℕ) (on on′ off off′ : Run ℤ) (formOn : notWellFormed n on ≡ notWellFormed n on′) (formOff : notWellFormed n off ≡ notWellFormed n off′)
+    (h : Same n (satisfies (on .items)) (satisfies (on′ .items))) (g : Same n (satisfies (off .items)) (satisfies (off′ .items))) where
+  -- An order that is not one is refused before any setting is looked at.
+  order-first : {C : Type 0} → (isOrder n (order .items) ≡ true → C) → (refusal2 n order .applies ≡ true → C) → C
+  order-first isOne isNone =
+      test (order .isWhole && isOrder n (order .items))
+      (λ q. isOne (and-both (order .isWhole) (isOrder n (order .items)) q .1))
+      (λ q. isNone (yes-not q))
+
+  pub same-whole : (room : ℕ) → whole n order on off room ≡ whole n order on′ off′ room
+  unfolding whole wholeFor judge
+  same-whole room =
+      order-first
+      (λ q. rw (formOn, formOff) (whole-same n (order .items) (is-order n (order .items) q) _ _ _ _ h g (refusal1 n ∷ refusal2 n order ∷ refusal3 n on′ ∷ refusal4 n off′ ∷ []) room))
+      (λ q. rw q)
+
+  pub same-partial : (k room : ℕ) → partial n order on off k room ≡ partial n order on′ off′ k room
+  unfolding partial partialFor judge
+  same-partial k room =
+      order-first
+      (λ q. rw (formOn, formOff) (partial-same n (order .items) (is-order n (order .items) q) _ _ _ _ h g (refusal1 n ∷ refusal2 n order ∷ refusal3 n on′ ∷ refusal4 n off′ ∷ check 5 (ltb maxRows k) ∷ []) k room))
+      (λ q. rw q)

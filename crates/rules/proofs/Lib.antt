@@ -8,3 +8,4 @@ pub mod Table
 pub mod Sole
 pub mod Judged
 pub mod Refusals
+pub mod ReadForm

@@ -20,7 +20,7 @@ abbrev pub In : Check → List Check → Type 0
 In c [] = ⊥
 In c (d ∷ cs) = (c ≡ d) ⊎ In c cs
 
--- A verdict is never both a result and a refusal, and names one of its kind.
+-- A verdict is never both a result and a refusal, and it names one result or one refusal.
 pub given-not-refused {ℓ} : {A : Type 0} {C : Type ℓ} {v : Verdict A} {a : A} {r : Reply} → v ≡ given a → v ≡ refused r → C
 given-not-refused p q = let z : _≡_ {A = ℕ} 0 1 = cc in let w : ⊥ = omega arith in absurd w
 

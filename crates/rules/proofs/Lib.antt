@@ -6,10 +6,12 @@ pub mod Orders
 pub mod Fixed
 pub mod Reach
 pub mod Smallest
+pub mod Cut
+pub mod From
 pub mod Widening
 pub mod Generation
-pub mod Pruning
 pub mod Counting
+pub mod Pruning
 pub mod Same
 pub mod Lines
 pub mod PlaText
@@ -17,8 +19,7 @@ pub mod Tokens
 pub mod Sole
 pub mod Judged
 pub mod Refusals
-pub mod Cut
-pub mod From
+pub mod ReadForm
 pub mod Listed
 pub mod Demands
 pub mod Table

@@ -13,7 +13,7 @@ use Rattle.rules.specs.Sheets.{satisfies}
 use Rattle.rules.specs.Search.{smallest, found, holdsSome}
 use Rattle.rules.specs.Method.{maxRows, next, widenAt, widen, grown, generated, complete, pruned, all, listOf}
 use Rattle.rules.specs.Answers.{Check, check, judge}
-use Rattle.rules.specs.Calls.{Run, refusal1, refusal2, refusal3, refusal4, notWellFormed, collision, wholeFor, whole, Partial, partialFor, partial}
+use Rattle.rules.specs.Calls.{Run, refusal2, form, notWellFormed, collision, wholeFor, whole, Partial, partialFor, partial}
 use Rattle.rules.proofs.Logic.{test, option, and-both, yes-not}
 use Rattle.rules.proofs.Rows.{dashes-row, without-row}
 use Rattle.rules.proofs.Orders.{IsOrder, is-order}
@@ -96,12 +96,12 @@ module _ (n : ℕ) (order : Run ℕ) (on on′ off off′ : Run ℤ) (formOn : n
   unfolding whole wholeFor judge
   same-whole room =
       order-first
-      (λ q. rw (formOn, formOff) (whole-same n (order .items) (is-order n (order .items) q) _ _ _ _ h g (refusal1 n ∷ refusal2 n order ∷ refusal3 n on′ ∷ refusal4 n off′ ∷ []) room))
+      (λ q. rw (formOn, formOff) (whole-same n (order .items) (is-order n (order .items) q) _ _ _ _ h g (form n order on′ off′) room))
       (λ q. rw q)
 
   pub same-partial : (k room : ℕ) → partial n order on off k room ≡ partial n order on′ off′ k room
   unfolding partial partialFor judge
   same-partial k room =
       order-first
-      (λ q. rw (formOn, formOff) (partial-same n (order .items) (is-order n (order .items) q) _ _ _ _ h g (refusal1 n ∷ refusal2 n order ∷ refusal3 n on′ ∷ refusal4 n off′ ∷ check 5 (ltb maxRows k) ∷ []) k room))
+      (λ q. rw (formOn, formOff) (partial-same n (order .items) (is-order n (order .items) q) _ _ _ _ h g (form n order on′ off′ ++ (check 5 (ltb maxRows k) ∷ [])) k room))
       (λ q. rw q)

@@ -101,10 +101,11 @@ wholeFor form order on off room =
     let rows = listOf order on off in
     judge (form ++ (refusal6 order on off ∷ refusal7 order on off ∷ refusal15 (length rows) room ∷ [])) rows
 
+abbrev pub form : ℕ → Run ℕ → Run ℤ → Run ℤ → List Check
+form n order on off = refusal1 n ∷ refusal2 n order ∷ refusal3 n on ∷ refusal4 n off ∷ []
+
 unfoldable pub whole : ℕ → Run ℕ → Run ℤ → Run ℤ → ℕ → Verdict (List Row)
-whole n order on off room =
-    wholeFor (refusal1 n ∷ refusal2 n order ∷ refusal3 n on ∷ refusal4 n off ∷ [])
-    (order .items) (satisfies (on .items)) (satisfies (off .items)) room
+whole n order on off room = wholeFor (form n order on off) (order .items) (satisfies (on .items)) (satisfies (off .items)) room
 
 -- Partial list: the first k generated rows, and whether generation has at most k.
 pub record Partial : Type 0 where
@@ -118,8 +119,7 @@ partialFor form order on off k room =
 
 unfoldable pub partial : ℕ → Run ℕ → Run ℤ → Run ℤ → ℕ → ℕ → Verdict Partial
 partial n order on off k room =
-    partialFor (refusal1 n ∷ refusal2 n order ∷ refusal3 n on ∷ refusal4 n off ∷ check 5 (ltb maxRows k) ∷ [])
-    (order .items) (satisfies (on .items)) (satisfies (off .items)) k room
+    partialFor (form n order on off ++ (check 5 (ltb maxRows k) ∷ [])) (order .items) (satisfies (on .items)) (satisfies (off .items)) k room
 
 -- Query: the smallest setting that satisfies the sheet and is not below the start.
 unfoldable pub query : ℕ → Run ℕ → Run ℤ → ℕ → Verdict (Option ℕ)

@@ -175,6 +175,7 @@ pub fn pair(random: &mut Random, most: u32) -> Pair {
     let percent = random.below(101);
     let by_settings = |(on, off): (Vec<i32>, Vec<i32>)| (renamed(&on, &names), renamed(&off, &names));
     let (on, off) = match random.below(8) {
+        0 if random.chance(10) => (full_sheet(random, n), full_sheet(random, n)),
         0 => (sheet(random, n), sheet(random, n)),
         1 | 2 => by_settings(parted_by_settings(random, few, percent, 100 - percent)),
         3 | 4 => by_settings(parted_by_settings(random, few, percent, (100 - percent) / 2)),

@@ -1,0 +1,2 @@
+-- Laws of sheets read in place, by subject.
+pub mod Signs

@@ -1,0 +1,7 @@
+// Sheets read where they are lent, in words or in bytes.
+mod literal;
+
+// A literal's variable and sign from its 32 bits; the bits of a signed number.
+pub use literal::variable;
+pub use literal::positive;
+pub use literal::bits_of;

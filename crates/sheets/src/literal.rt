@@ -1,0 +1,34 @@
+// A literal is read by its 32 bits: below 2 ^ 31 it is its variable, else the variable is 2 ^ 32 less the bits.
+// This holds for all 32-bit words, the one of -2147483648 included.
+ghost use mathlib.Core.Path.{_≡_};
+ghost use mir.Syntax.{w32};
+ghost use mir.Val.{toZ};
+ghost use Rattle.rules.specs.Sheets.{variable, positive};
+
+use rules::Var;
+
+// The variable of the literal whose bits are w.
+pub fn variable(w: u32) -> Var
+    ensures { λ r. ⌜ r .0 ≡ variable (toZ w32 w) ⌝ }
+{
+    if w < 2147483648 {
+        Var(w)
+    } else {
+        Var(4294967295 - w + 1)
+    }
+}
+
+// Whether the literal whose bits are w stands for its variable at 1.
+pub fn positive(w: u32) -> bool
+    ensures { λ r. ⌜ r ≡ positive (toZ w32 w) ⌝ }
+{
+    w < 2147483648
+}
+
+// The bits of x.
+pub fn bits_of(x: i32) -> u32
+    ensures { λ r. ⌜ toZ w32 r ≡ x ⌝ }
+{
+    let low = (x & 2147483647) as u32;
+    if x < 0 { low + 2147483648 } else { low }
+}

@@ -1,2 +1,3 @@
 -- Laws of sheets read in place, by subject.
 pub mod Signs
+pub mod Bytes

@@ -1,7 +1,12 @@
 // Sheets read where they are lent, in words or in bytes.
 mod literal;
+mod numbers;
 
 // A literal's variable and sign from its 32 bits; the bits of a signed number.
 pub use literal::variable;
 pub use literal::positive;
 pub use literal::bits_of;
+
+// The k-th number's bits.
+pub use numbers::word_at;
+pub use numbers::number_at;

@@ -1,0 +1,2 @@
+-- What the functions over lent sheets compute, where document 01 has no word for it.
+pub mod Numbers

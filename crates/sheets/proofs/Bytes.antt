@@ -1,13 +1,15 @@
 -- Bytes as words, four at a time.
 use mathlib.Core.Path.{_≡_, refl, sym, ap, ap₂, _∙_}
+use mathlib.Core.Bool.{Bool, _&&_}
 use mathlib.Core.List.{List, [], _∷_, map}
-use Prim.Native.Nat.{ℕ, zero, suc, _+_, _*_, _/_, _<_}
+use Prim.Native.Nat.{ℕ, zero, suc, _+_, _*_, _/_, _%_, _<_}
 use native.Mathlib.Omega.{arith}
 use lib.IntN.{ℤ, pos}
 use lib.ListN.{length, getD, length-map, List·getD-map}
 use mir.Syntax.{w32}
 use mir.Val.{toZ}
-use Rattle.rules.specs.Calls.{wordsOf}
+use borrow.Author.Tests.{eq-eqb}
+use Rattle.rules.specs.Calls.{wordsOf, noneLeftOver}
 use Rattle.sheets.specs.Numbers.{wordFrom, numbersOf}
 
 pub words-length : (bs : List ℕ) → length (wordsOf bs) ≡ length bs / 4
@@ -44,3 +46,7 @@ numbers-length bs = length-map (wordsOf bs) (toZ w32) ∙ words-length bs
 
 pub numbers-at : (bs : List ℕ) (k : ℕ) → getD (numbersOf bs) k (pos 0) ≡ toZ w32 (getD (wordsOf bs) k 0)
 numbers-at bs k = List·getD-map (toZ w32) (wordsOf bs) k 0
+
+-- with no bytes left over, what holds of the numbers decides
+pub whole : (bs : List ℕ) (b r : Bool) → length bs % 4 ≡ 0 → r ≡ b → r ≡ (noneLeftOver bs && b)
+whole bs b r e h = rw (eq-eqb (length bs % 4) 0 e) h

@@ -1,3 +1,4 @@
 -- Laws of sheets read in place, by subject.
 pub mod Signs
 pub mod Bytes
+pub mod Forms

@@ -1,4 +1,5 @@
 // Sheets read where they are lent, in words or in bytes.
+mod form;
 mod literal;
 mod numbers;
 
@@ -10,3 +11,7 @@ pub use literal::bits_of;
 // The k-th number's bits.
 pub use numbers::word_at;
 pub use numbers::number_at;
+
+// Well-formedness, of words and of bytes.
+pub use form::well_formed;
+pub use form::well_formed_bytes;

@@ -2,3 +2,4 @@
 pub mod Signs
 pub mod Bytes
 pub mod Forms
+pub mod Orders

@@ -2,6 +2,7 @@
 mod form;
 mod literal;
 mod numbers;
+mod order;
 
 // A literal's variable and sign from its 32 bits; the bits of a signed number.
 pub use literal::variable;
@@ -15,3 +16,6 @@ pub use numbers::number_at;
 // Well-formedness, of words and of bytes.
 pub use form::well_formed;
 pub use form::well_formed_bytes;
+
+// Orders.
+pub use order::is_order;

@@ -2,7 +2,7 @@
 use mathlib.Core.Path.{_≡_, refl, sym, ap, ap₂, _∙_}
 use mathlib.Core.Bool.{Bool, _&&_}
 use mathlib.Core.List.{List, [], _∷_, map}
-use Prim.Native.Nat.{ℕ, zero, suc, _+_, _*_, _/_, _%_, _<_}
+use Prim.Native.Nat.{ℕ, zero, suc, _+_, _*_, _/_, _%_, _≤_, _<_}
 use native.Mathlib.Omega.{arith}
 use lib.IntN.{ℤ, pos}
 use lib.ListN.{length, getD, length-map, List·getD-map}
@@ -41,11 +41,17 @@ word-is (a ∷ b ∷ c ∷ d ∷ bs) zero h = refl
 word-is (a ∷ b ∷ c ∷ d ∷ bs) (suc k) h = word-is bs k (omega arith) ∙ sym (word-on a b c d bs k)
 
 -- the numbers of lent bytes
-pub numbers-length : (bs : List ℕ) → length (numbersOf bs) ≡ length bs / 4
+numbers-length : (bs : List ℕ) → length (numbersOf bs) ≡ length bs / 4
 numbers-length bs = length-map (wordsOf bs) (toZ w32) ∙ words-length bs
 
-pub numbers-at : (bs : List ℕ) (k : ℕ) → getD (numbersOf bs) k (pos 0) ≡ toZ w32 (getD (wordsOf bs) k 0)
-numbers-at bs k = List·getD-map (toZ w32) (wordsOf bs) k 0
+pub within : (bs : List ℕ) (k : ℕ) → k < length bs / 4 → k < length (numbersOf bs)
+within bs k h = rw (numbers-length bs) h
+
+pub beyond : (bs : List ℕ) (k : ℕ) → length bs / 4 ≤ k → length (numbersOf bs) ≤ k
+beyond bs k h = rw (numbers-length bs) h
+
+pub numbers-at : (bs : List ℕ) (k w : ℕ) → w ≡ getD (wordsOf bs) k 0 → toZ w32 w ≡ getD (numbersOf bs) k (pos 0)
+numbers-at bs k w e = ap (toZ w32) e ∙ sym (List·getD-map (toZ w32) (wordsOf bs) k 0)
 
 -- with no bytes left over, what holds of the numbers decides
 pub whole : (bs : List ℕ) (b r : Bool) → length bs % 4 ≡ 0 → r ≡ b → r ≡ (noneLeftOver bs && b)

@@ -3,3 +3,5 @@ pub mod Signs
 pub mod Bytes
 pub mod Forms
 pub mod Orders
+pub mod Openness
+pub mod Clauses

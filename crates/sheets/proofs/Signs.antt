@@ -41,6 +41,9 @@ pub variable-of : (z : ℤ) → closes z ≡ false → 1 ≤ variable z
 variable-of (pos n) e = let h = eqb-false n 0 e in omega (arith, pos-of-ne-zero h)
 variable-of (negsuc n) e = omega arith
 
+pub literal-variable : (w : ℕ) → (w ≡ 0 → ⊥) → 1 ≤ variable (toZ w32 w)
+literal-variable w h = variable-of (toZ w32 w) (closes-of w ∙ ne-eqb w 0 h)
+
 -- the low 31 bits of a signed number, with the top bit where it is negative, are its bits
 pub low-is : (n : ℕ) → toZ w32 (bitAnd n 2147483647) ≡ pos (n % 2147483648)
 low-is n = rw (and-mask n 31, lt-ltb (n % 2147483648) 2147483648 (omega arith))

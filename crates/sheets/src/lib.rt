@@ -2,6 +2,7 @@
 mod form;
 mod literal;
 mod numbers;
+mod open;
 mod order;
 
 // A literal's variable and sign from its 32 bits; the bits of a signed number.
@@ -19,3 +20,6 @@ pub use form::well_formed_bytes;
 
 // Orders.
 pub use order::is_order;
+
+// A sheet against a partial setting.
+pub use open::open_sheet;

@@ -1,11 +1,8 @@
-use mathlib.Core.Path.{sym, ap, _∙_}
 use Prim.Native.Nat.{_-_}
-use mir.Syntax.{w32}
-use mir.Val.{toZ}
 use borrow.Author.Needs.{needs}
 use borrow.Author.Tests.{ne-eqb}
 use Rattle.sheets.specs.Numbers.{numbersOf}
-use Rattle.sheets.proofs.Bytes.{whole, numbers-length, numbers-at}
+use Rattle.sheets.proofs.Bytes.{whole, within, beyond, numbers-at}
 use Rattle.sheets.proofs.Forms.{Reading, start, turn, verdict, too-long}
 use Rattle.sheets.proofs.form.well_formed_bytes.Statement.{statement}
 use Rattle.sheets.proofs.form.well_formed_bytes.Tie as tie
@@ -30,7 +27,7 @@ returns c = rw (ne-eqb _ 0 (c .if1 .taken))
 returns-2 : tie.Need-returns-2 Inv-loop μ-loop
 returns-2 c =
     let bs = c .before .before .before .args .sheet .now in
-    whole bs _ _ (c .before .if1 .left) (too-long _ (numbersOf bs) (rw (numbers-length bs) (c .if2 .taken)))
+    whole bs _ _ (c .before .if1 .left) (too-long _ (numbersOf bs) (within bs _ (c .if2 .taken)))
 
 -- src/form.rt:86:9
 empty-requires : tie.Need-empty-requires Inv-loop μ-loop
@@ -59,7 +56,7 @@ loop-less c = search needs
 -- src/form.rt:88:5
 loop-again : tie.Need-loop-again Inv-loop μ-loop
 loop-again c =
-    turn _ _ _ _ (c .before .before .before .loop .inv) (rw numbers-length (c .before .before .loop-test .taken)) _ _ (ap (toZ w32) (c .before .word-at .ensures) ∙ sym (numbers-at _ _)) (c .after .ensures)
+    turn _ _ _ _ (c .before .before .before .loop .inv) (within _ _ (c .before .before .loop-test .taken)) _ _ (numbers-at _ _ _ (c .before .word-at .ensures)) (c .after .ensures)
 
 -- src/form.rt:92:5
 is-good-requires : tie.Need-is-good-requires Inv-loop μ-loop
@@ -70,7 +67,7 @@ returns-3 : tie.Need-returns-3 Inv-loop μ-loop
 returns-3 c =
     let l = c .before .before .before .before in
     let bs = l .before .before .before .args .sheet .now in
-    whole bs _ _ (l .before .if1 .left) (verdict _ _ _ _ (c .before .before .loop .inv) (rw numbers-length (c .before .loop-test .left)) (rw numbers-length (l .if2 .left)) _ (c .is-good .ensures))
+    whole bs _ _ (l .before .if1 .left) (verdict _ _ _ _ (c .before .before .loop .inv) (beyond bs _ (c .before .loop-test .left)) (beyond bs _ (l .if2 .left)) _ (c .is-good .ensures))
 
 pub well-formed-bytes-spec : {M : Type 1} → statement M
 well-formed-bytes-spec =

@@ -47,12 +47,3 @@ module _ (t : ℤ → Bool) (zs : List ℤ) (k w : ℕ) (h : k < length zs) (e :
 pub all-met : (t : ℤ → Bool) (zs : List ℤ) (k : ℕ) (met whole : Bool) → length zs ≤ k → everyClause t met (drop k zs) ≡ whole → true ≡ whole
 unfolding everyClause
 all-met t zs k met whole h inv = sym (ap (everyClause t met) (drop-of-length-le zs h)) ∙ inv
-
--- a literal whose variable is v, dashed or fixed in the row
-module _ (r : Row) (v : ℕ) (z : ℤ) (e : v ≡ variable z) where
-  pub dashed-open : (r .care / 2 ^ (v - 1) % 2 ≡ 1 → ⊥) → true ≡ isOpen r z
-  dashed-open f = rw (← e, ne-eqb (r .care / 2 ^ (v - 1) % 2) 1 f)
-
-  pub fixed-open : (b : Bool) → r .care / 2 ^ (v - 1) % 2 ≡ 1 → b ≡ positive z
-      → cond b (eqb (r .value / 2 ^ (v - 1) % 2) 1) (not (eqb (r .value / 2 ^ (v - 1) % 2) 1)) ≡ isOpen r z
-  fixed-open b f s = rw (← e, ← s, eq-eqb (r .care / 2 ^ (v - 1) % 2) 1 f)

@@ -1,6 +1,6 @@
 -- A 32-bit word as a signed number.
 use mathlib.Core.Path.{_≡_, refl, sym, ap, _∙_}
-use mathlib.Core.Bool.{Bool, true, false}
+use mathlib.Core.Bool.{Bool, true, false, not, cond}
 use Prim.Native.Nat.{ℕ, suc, _+_, _-_, _%_, _≤_, _<_, _^_}
 use native.Mathlib.Nat.{pos-of-ne-zero}
 use native.Mathlib.Omega.{arith}
@@ -12,7 +12,10 @@ use mir.Syntax.{w32}
 use mir.Val.{toZ, ofZ, sel, SFits}
 use mir.Facts.{toZ-ofZ}
 use borrow.Author.Tests.{lt-ltb, le-ltb, ne-eqb, ltb-true, ltb-false, eqb-false}
-use Rattle.rules.specs.Sheets.{variable, positive, closes}
+use Rattle.rules.specs.declared.Row.{Row}
+use Rattle.rules.specs.Words.{isOne}
+use Rattle.rules.specs.Sheets.{variable, positive, isTrue, closes}
+use Rattle.sheets.specs.Open.{isOpen}
 
 -- the sign is the top bit
 sel-sign : (b : Bool) (m n : ℕ) → nonNeg (sel b (pos m) (negsuc n)) ≡ b
@@ -43,6 +46,17 @@ variable-of (negsuc n) e = omega arith
 
 pub literal-variable : (w : ℕ) → (w ≡ 0 → ⊥) → 1 ≤ variable (toZ w32 w)
 literal-variable w h = variable-of (toZ w32 w) (closes-of w ∙ ne-eqb w 0 h)
+
+-- a literal, by its variable v, the bit there and its sign
+pub true-at : (s v : ℕ) (z : ℤ) (one b : Bool) → v ≡ variable z → one ≡ isOne v s → b ≡ positive z → cond b one (not one) ≡ isTrue s z
+true-at s v z one b e o p = rw (o, e, p)
+
+module _ (r : Row) (v : ℕ) (z : ℤ) (one : Bool) (e : v ≡ variable z) (o : one ≡ isOne v (r .care)) where
+  pub fixed-open : one ≡ true → (t : Bool) → t ≡ isTrue (r .value) z → t ≡ isOpen r z
+  fixed-open f t h = rw (← e, ← o, f) (h ∙ rw (← e))
+
+  pub dashed-open : one ≡ false → true ≡ isOpen r z
+  dashed-open f = rw (← e, ← o, f)
 
 -- the low 31 bits of a signed number, with the top bit where it is negative, are its bits
 pub low-is : (n : ℕ) → toZ w32 (bitAnd n 2147483647) ≡ pos (n % 2147483648)

@@ -5,9 +5,11 @@ mod numbers;
 mod open;
 mod order;
 
-// A literal's variable and sign from its 32 bits; the bits of a signed number.
+// A literal's variable and sign from its 32 bits, and whether it is true at a setting; the bits of a signed number.
 pub use literal::variable;
 pub use literal::positive;
+pub use literal::is_one;
+pub use literal::is_true;
 pub use literal::bits_of;
 
 // The k-th number's bits.

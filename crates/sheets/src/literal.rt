@@ -1,11 +1,13 @@
 // A literal is read by its 32 bits: below 2 ^ 31 it is its variable, else the variable is 2 ^ 32 less the bits.
 // This holds for all 32-bit words, the one of -2147483648 included.
 ghost use mathlib.Core.Path.{_≡_};
+ghost use Prim.Native.Nat.{_≤_};
 ghost use mir.Syntax.{w32};
 ghost use mir.Val.{toZ};
-ghost use Rattle.rules.specs.Sheets.{variable, positive};
+ghost use Rattle.rules.specs.Words.{maxInputs, isOne};
+ghost use Rattle.rules.specs.Sheets.{variable, positive, isTrue};
 
-use rules::Var;
+use rules::{Setting, Var};
 
 // The variable of the literal whose bits are w.
 pub fn variable(w: u32) -> Var
@@ -23,6 +25,23 @@ pub fn positive(w: u32) -> bool
     ensures { λ r. ⌜ r ≡ positive (toZ w32 w) ⌝ }
 {
     w < 2147483648
+}
+
+// Variable v is 1 in the word.
+pub fn is_one(v: Var, word: u32) -> bool
+    requires { ⌜ (1 ≤ v .0) × (v .0 ≤ maxInputs) ⌝ }
+    ensures { λ r. ⌜ r ≡ isOne (v .0) word ⌝ }
+{
+    (word >> (v.0 - 1)) % 2 == 1
+}
+
+// The literal whose bits are w is true at the setting.
+pub fn is_true(w: u32, s: Setting) -> bool
+    requires { ⌜ (1 ≤ variable (toZ w32 w)) × (variable (toZ w32 w) ≤ maxInputs) ⌝ }
+    ensures { λ r. ⌜ r ≡ isTrue (s .0) (toZ w32 w) ⌝ }
+{
+    let one = is_one(variable(w), s.0);
+    if positive(w) { one } else { !one }
 }
 
 // The bits of x.

@@ -5,36 +5,32 @@ ghost use mathlib.Core.Bool.{true, false};
 ghost use Prim.Native.Nat.{_≤_};
 ghost use mir.Syntax.{w32};
 ghost use mir.Val.{toZ};
+ghost use Rattle.rules.specs.Words.{maxInputs};
 ghost use Rattle.rules.specs.Sheets.{variable, inReach, everyClause};
 ghost use Rattle.sheets.specs.Numbers.{numbersOf};
 ghost use Rattle.sheets.specs.Open.{isOpen};
 
-use crate::literal::{positive, variable};
+use crate::literal::{is_one, is_true, variable};
 use crate::numbers::word_at;
-use rules::Row;
+use rules::{Row, Setting};
 
 // The row does not fix the variable of the literal, whose bits are w, against it.
 fn open_literal(w: u32, row: Row) -> bool
-    requires { ⌜ (1 ≤ variable (toZ w32 w)) × (variable (toZ w32 w) ≤ 24) ⌝ }
+    requires { ⌜ (1 ≤ variable (toZ w32 w)) × (variable (toZ w32 w) ≤ maxInputs) ⌝ }
     ensures { λ r. ⌜ r ≡ isOpen row (toZ w32 w) ⌝ }
 {
-    let v = variable(w);
-    let i = v.0 - 1;
     let care = row.care;
     let value = row.value;
-    if (care >> i) % 2 != 1 {
-        return true;
-    }
-    if positive(w) {
-        (value >> i) % 2 == 1
+    if is_one(variable(w), care) {
+        is_true(w, Setting(value))
     } else {
-        (value >> i) % 2 != 1
+        true
     }
 }
 
 // No clause of the sheet in these bytes is lost under the row.
 pub fn open_sheet(sheet: &[u8], row: Row) -> bool
-    requires { ⌜ inReach 24 (numbersOf (now sheet)) ≡ true ⌝ }
+    requires { ⌜ inReach maxInputs (numbersOf (now sheet)) ≡ true ⌝ }
     ensures { λ r. ⌜ r ≡ everyClause (isOpen row) false (numbersOf (now (sheet .entry))) ⌝ }
 {
     let count = sheet.len() / 4;

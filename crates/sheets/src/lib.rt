@@ -1,4 +1,5 @@
 // Sheets read where they are lent, in words or in bytes.
+mod barred;
 mod form;
 mod literal;
 mod numbers;
@@ -25,3 +26,6 @@ pub use order::is_order;
 
 // A sheet against a partial setting.
 pub use open::open_sheet;
+
+// The rows that a sheet bars.
+pub use barred::bar;

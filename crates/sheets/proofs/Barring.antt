@@ -1,8 +1,8 @@
 -- The loop that writes the barred rows: one literal more, one clause closed, all read.
 use mathlib.Core.Path.{_≡_, refl, sym, ap, ap₂, _∙_}
-use mathlib.Core.Bool.{Bool, true, false, not, cond, _||_}
+use mathlib.Core.Bool.{Bool, true, false, cond, _||_}
 use mathlib.Core.List.{List, [], _∷_, _++_, append-nil, append-assoc}
-use Prim.Native.Nat.{ℕ, suc, _+_, _-_, _*_, _^_, _≤_, _<_}
+use Prim.Native.Nat.{ℕ, _+_, _-_, _*_, _^_, _≤_, _<_}
 use native.Mathlib.Nat.{zero-add}
 use native.Mathlib.Numerals.{add-one}
 use native.Mathlib.Omega.{arith}
@@ -16,7 +16,7 @@ use mir.Val.{toZ}
 use borrow.Author.Tests.{eq-eqb, ne-eqb}
 use Rattle.rules.specs.declared.Row.{Row}
 use Rattle.rules.specs.Words.{one, isOne}
-use Rattle.rules.specs.Sheets.{variable, positive, isTrue, closes, clauses}
+use Rattle.rules.specs.Sheets.{variable, positive, isTrue, clauses}
 use Rattle.rules.specs.Answers.{over}
 use Rattle.rules.proofs.Logic.{test}
 use Rattle.sheets.specs.declared.barred.Clause.{Clause}
@@ -95,17 +95,20 @@ module _ (sheet : List ℤ) (old : List ℕ) (room : 2 * clauses sheet ≤ lengt
     write-turn z b new total d n t q =
         let f = fewer z in
         let m = inv .4 in
-        let g = inv .1 in
-        (inv .0 ++ (rowOf c ∷ []), t ∙ ap (λ (j : ℕ). j + 1) g ∙ sym (length-append (inv .0) (rowOf c ∷ [])),
-        n
-        ∙ ap₂ (λ (l : List ℕ) (j : ℕ). set (set l (2 * j) (c .care)) (2 * j + 1) (c .value)) (inv .2) g
-        ∙ over-row (inv .0) old (rowOf c) (omega arith),
-        append-assoc (inv .0) (rowOf c ∷ []) (barredFrom d (drop (k + 1) sheet))
-        ∙ ap (λ (x : Clause). inv .0 ++ (rowOf c ∷ barredFrom x (drop (k + 1) sheet))) q
-        ∙ (rw b at (closed-rows z)), omega arith)
+        let g = inv .1 in (
+          inv .0 ++ (rowOf c ∷ []),
+          t ∙ ap (λ (j : ℕ). j + 1) g ∙ sym (length-append (inv .0) (rowOf c ∷ [])),
+          n
+              ∙ ap₂ (λ (l : List ℕ) (j : ℕ). set (set l (2 * j) (c .care)) (2 * j + 1) (c .value)) (inv .2) g
+              ∙ over-row (inv .0) old (rowOf c) (omega arith),
+          append-assoc (inv .0) (rowOf c ∷ []) (barredFrom d (drop (k + 1) sheet))
+              ∙ ap (λ (x : Clause). inv .0 ++ (rowOf c ∷ barredFrom x (drop (k + 1) sheet))) q
+              ∙ (rw b at (closed-rows z)),
+          omega arith,
+        )
 
-    pub close-turn : w ≡ 0 → (new : List ℕ) (total : ℕ) (d : Clause)
-        → new ≡ cond (c .both) rows (set (set rows (2 * count) (c .care)) (2 * count + 1) (c .value)) → total ≡ cond (c .both) count (count + 1) → d ≡ noLiterals
+    pub close-turn : w ≡ 0 → (new left : List ℕ) (total : ℕ) (d : Clause) → new ≡ left
+        → left ≡ cond (c .both) rows (set (set rows (2 * count) (c .care)) (2 * count + 1) (c .value)) → total ≡ cond (c .both) count (count + 1) → d ≡ noLiterals
         → Barring sheet old (k + 1) new total d
-    close-turn z new total d n t q =
-        test (c .both) (λ b. skip-turn z b new total d (rw b at n) (rw b at t) q) (λ b. write-turn z b new total d (rw b at n) (rw b at t) q)
+    close-turn z new left total d l n t q =
+        test (c .both) (λ b. skip-turn z b new total d (l ∙ (rw b at n)) (rw b at t) q) (λ b. write-turn z b new total d (l ∙ (rw b at n)) (rw b at t) q)

@@ -1,8 +1,8 @@
 -- One turn of a loop over the numbers of a sheet that asks for a literal that passes in every clause.
-use mathlib.Core.Path.{_≡_, refl, sym, ap, _∙_}
-use mathlib.Core.Bool.{Bool, true, false, not, cond, _&&_, _||_}
+use mathlib.Core.Path.{_≡_, sym, ap, _∙_}
+use mathlib.Core.Bool.{Bool, true, false, cond, _&&_, _||_}
 use mathlib.Core.List.{List, [], _∷_}
-use Prim.Native.Nat.{ℕ, zero, suc, _+_, _-_, _/_, _%_, _^_, _≤_, _<_}
+use Prim.Native.Nat.{ℕ, zero, suc, _+_, _≤_, _<_}
 use native.Mathlib.Numerals.{add-one}
 use native.Mathlib.Omega.{arith}
 use lib.Dec.{eqb, leb}
@@ -12,10 +12,8 @@ use lib.Seq.{drop-cons}
 use mir.Syntax.{w32}
 use mir.Val.{toZ}
 use borrow.Author.Tests.{eq-eqb, ne-eqb, leb-true}
-use Rattle.rules.specs.declared.Row.{Row}
-use Rattle.rules.specs.Sheets.{maxNumbers, maxClauses, variable, closes, everyClause, clauses, endsClosed, inReach, wellFormed}
+use Rattle.rules.specs.Sheets.{maxNumbers, maxClauses, variable, everyClause, clauses, endsClosed, inReach, wellFormed}
 use Rattle.rules.proofs.Logic.{and-both}
-use Rattle.sheets.specs.Open.{isOpen}
 use Rattle.sheets.proofs.Signs.{closes-of}
 
 -- every number of a sheet in reach is in reach

@@ -1,5 +1,5 @@
 -- Rows kept as pairs of words, and written one after another over a run.
-use mathlib.Core.Path.{_≡_, refl, sym, ap, ap₂, _∙_}
+use mathlib.Core.Path.{_≡_, refl, sym, ap, _∙_}
 use mathlib.Core.List.{List, [], _∷_, _++_, append-assoc}
 use Prim.Native.Nat.{ℕ, suc, _+_, _*_, _≤_, _<_}
 use native.Mathlib.Numerals.{add-one}
@@ -45,7 +45,7 @@ over-more new old a n e h =
     ap (λ (t : List ℕ). set (new ++ t) n a) (drop-cons old (length new) 0 l)
     ∙ set-at new (getD old (length new) 0) (drop (suc (length new)) old) a n (sym e)
     ∙ sym (append-assoc new (a ∷ []) (drop (length (new ++ (a ∷ []))) old)
-      ∙ ap (λ (m : ℕ). new ++ (a ∷ drop m old)) (length-append new (a ∷ []) ∙ add-one (length new)))
+    ∙ ap (λ (m : ℕ). new ++ (a ∷ drop m old)) (length-append new (a ∷ []) ∙ add-one (length new)))
 
 pub over-row : (rows : List Row) (old : List ℕ) (r : Row) → 2 * length rows + 2 ≤ length old
     → set (set (over (pairsOf rows) old) (2 * length rows) (r .care)) (2 * length rows + 1) (r .value) ≡ over (pairsOf (rows ++ (r ∷ []))) old

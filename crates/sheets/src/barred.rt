@@ -10,8 +10,10 @@ ghost use Rattle.rules.specs.Words.{maxInputs};
 ghost use Rattle.rules.specs.Sheets.{variable, clauses, wellFormed};
 ghost use Rattle.rules.specs.Answers.{over};
 ghost use Rattle.sheets.specs.Barred.{noLiterals, withLiteral, barred, pairsOf};
-
-use crate::literal::{is_one, is_true, positive, variable};
+use crate::literal::is_one;
+use crate::literal::is_true;
+use crate::literal::positive;
+use crate::literal::variable;
 use crate::numbers::number_at;
 use rules::Setting;
 
@@ -45,7 +47,11 @@ impl Clause {
         let v = variable(w);
         if is_one(v, care) {
             if is_true(w, Setting(value)) {
-                return Clause { care, value, both: true };
+                return Clause {
+                    care,
+                    value,
+                    both: true,
+                };
             }
             return Clause { care, value, both };
         }

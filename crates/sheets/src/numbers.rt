@@ -7,7 +7,6 @@ ghost use mir.Syntax.{w32};
 ghost use mir.Val.{toZ};
 ghost use Rattle.rules.specs.Calls.{wordsOf};
 ghost use Rattle.sheets.specs.Numbers.{wordFrom};
-
 use crate::literal::bits_of;
 
 fn wide(b: u8) -> u32

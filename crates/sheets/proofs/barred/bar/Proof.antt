@@ -9,12 +9,6 @@ use Rattle.sheets.proofs.Clauses.{reach-at, form-reach}
 use Rattle.sheets.proofs.Barring.{Barring, begin, same-size, finished, literal-turn, has-room, close-turn}
 use Rattle.sheets.proofs.barred.bar.Statement.{statement}
 use Rattle.sheets.proofs.barred.bar.Tie as tie
-use Rattle.sheets.proofs.barred.bar.Reads as reads
-use Rattle.sheets.proofs.barred.bar.Lts as lts
-use Rattle.sheets.proofs.barred.Clause.empty.Reads as empty-reads
-use Rattle.sheets.proofs.barred.Clause.with.Reads as with-reads
-use Rattle.sheets.proofs.barred.Clause.write.Reads as write-reads
-use Rattle.sheets.proofs.numbers.number_at.Reads as number-at-reads
 
 abbrev Inv-loop : tie.InvT-loop
 Inv-loop n sheet rows₀ count₀ clause₀ k₀ rows count clause k = Barring sheet rows₀ k rows count clause
@@ -22,47 +16,39 @@ Inv-loop n sheet rows₀ count₀ clause₀ k₀ rows count clause k = Barring s
 abbrev μ-loop : tie.MeasureT-loop
 μ-loop n sheet rows₀ count₀ clause₀ k₀ rows count clause k = length sheet - k
 
--- src/barred.rt:95:9
 empty-requires : tie.Need-empty-requires Inv-loop μ-loop
 empty-requires c κs = tt
 
--- src/barred.rt:97:5
 loop-holds : tie.Need-loop-holds Inv-loop μ-loop
 loop-holds c = begin _ _ _ (c .empty .ensures)
 
--- src/barred.rt:98:13
 number-at-requires : tie.Need-number-at-requires Inv-loop μ-loop
 number-at-requires c κs = search needs
 
--- src/barred.rt:100:13
 write-requires : tie.Need-write-requires Inv-loop μ-loop
 write-requires c κs =
     let l = c .before .before .before .before in
     let s = l .before .before .before in
     has-room _ _ (s .pre .1 .1) _ _ _ _ (l .loop .inv) _ (c .before .before .before .loop-test .taken) (c .before .before .number-at .ensures) (c .before .if1 .taken)
 
--- src/barred.rt:101:13
 empty-requires-2 : tie.Need-empty-requires-2 Inv-loop μ-loop
 empty-requires-2 c κs = tt
 
--- src/barred.rt:103:13
 with-requires : tie.Need-with-requires Inv-loop μ-loop
 with-requires c κs =
     let l = c .before .before .before in
-    let s = l .before .before .before in
-    (literal-variable _ (c .if1 .left),
-    rw (c .before .number-at .ensures)
-    (le-trans (reach-at _ _ _ (form-reach _ _ (s .pre .1 .0)) (c .before .before .loop-test .taken)) (s .pre .0)))
+    let s = l .before .before .before in (
+      literal-variable _ (c .if1 .left),
+      rw (c .before .number-at .ensures)
+          (le-trans (reach-at _ _ _ (form-reach _ _ (s .pre .1 .0)) (c .before .before .loop-test .taken)) (s .pre .0)),
+    )
 
--- src/barred.rt:105:9
 add-k : tie.Need-add-k Inv-loop μ-loop
 add-k c = search needs
 
--- src/barred.rt:97:5
 loop-less : tie.Need-loop-less Inv-loop μ-loop
 loop-less c = search needs
 
--- src/barred.rt:97:5
 loop-again : tie.Need-loop-again Inv-loop μ-loop
 loop-again c =
     let l = c .before .before .before in
@@ -71,14 +57,12 @@ loop-again c =
     let e = c .before .number-at .ensures in
     either (c .if1 .came)
     (λ w.
-      close-turn _ _ (s .pre .1 .1) (l .loop .k) _ _ _ (l .loop .inv) _ h e (w .0 .taken) _ _ _ (w .6 ∙ w .2 .ensures .0) (w .7 ∙ w .2 .ensures .1) (w .8 ∙ w .5 .ensures))
+    close-turn _ _ (s .pre .1 .1) (l .loop .k) _ _ _ (l .loop .inv) _ h e (w .0 .taken) _ _ _ _ (w .6) (w .2 .ensures .0) (w .7 ∙ w .2 .ensures .1) (w .8 ∙ w .5 .ensures))
     (λ w. literal-turn _ _ (s .pre .1 .1) (l .loop .k) _ _ _ (l .loop .inv) _ h e (w .0 .left) _ _ _ (w .2) (w .3) (w .4 ∙ w .1 .ensures))
 
--- src/barred.rt:87:1
 same-length : tie.Need-same-length Inv-loop μ-loop
 same-length c = same-size _ _ (c .before .before .before .before .pre .1 .1) (c .before .loop .k) _ _ _ (c .before .loop .inv)
 
--- src/barred.rt:87:1
 returns : tie.Need-returns Inv-loop μ-loop
 returns c = finished _ _ (c .before .before .before .before .pre .1 .1) _ _ _ _ (c .before .loop .inv) (c .loop-test .left)
 

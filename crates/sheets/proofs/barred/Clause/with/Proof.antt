@@ -6,57 +6,45 @@ use borrow.Author.Needs.{needs}
 use Rattle.sheets.proofs.Barring.{with-fixed, with-dashed}
 use Rattle.sheets.proofs.barred.Clause.with.Statement.{statement}
 use Rattle.sheets.proofs.barred.Clause.with.Tie as tie
-use Rattle.sheets.proofs.barred.Clause.with.Reads as reads
-use Rattle.sheets.proofs.barred.Clause.with.Lts as lts
-use Rattle.rules.proofs.Var.bit.Reads as bit-reads
-use Rattle.sheets.proofs.literal.is_one.Reads as is-one-reads
-use Rattle.sheets.proofs.literal.is_true.Reads as is-true-reads
-use Rattle.sheets.proofs.literal.positive.Reads as positive-reads
-use Rattle.sheets.proofs.literal.variable.Reads as variable-reads
 
--- src/barred.rt:45:13
 variable-requires : tie.Need-variable-requires
 variable-requires c κs = search needs
 
--- src/barred.rt:46:12
 is-one-requires : tie.Need-is-one-requires
 is-one-requires c κs = search needs
 
--- src/barred.rt:47:16
 is-true-requires : tie.Need-is-true-requires
 is-true-requires c κs = search needs
 
--- src/barred.rt:48:17
 returns : tie.Need-returns
 returns c =
     let p = c .before .before .before .before in
-    with-fixed (p .before .args .self) _ (toZ w32 (p .before .args .w)) _ (p .variable .ensures) (c .before .before .before .is-one .ensures) (c .before .before .if1 .taken) true (sym (c .if2 .taken) ∙ c .before .is-true .ensures)
+    with-fixed (p .before .args .self) _ (toZ w32 (p .before .args .w)) _ (p .variable .ensures) (c .before .before .before .is-one .ensures)
+    (c .before .before .if1 .taken) true (sym (c .if2 .taken) ∙ c .before .is-true .ensures)
 
--- src/barred.rt:50:13
 returns-2 : tie.Need-returns-2
 returns-2 c =
     let p = c .before .before .before .before in
-    with-fixed (p .before .args .self) _ (toZ w32 (p .before .args .w)) _ (p .variable .ensures) (c .before .before .before .is-one .ensures) (c .before .before .if1 .taken) false (sym (c .if2 .left) ∙ c .before .is-true .ensures)
+    with-fixed (p .before .args .self) _ (toZ w32 (p .before .args .w)) _ (p .variable .ensures) (c .before .before .before .is-one .ensures)
+    (c .before .before .if1 .taken) false (sym (c .if2 .left) ∙ c .before .is-true .ensures)
 
--- src/barred.rt:52:13
 bit-requires : tie.Need-bit-requires
 bit-requires c κs = search needs
 
--- src/barred.rt:53:12
 positive-requires : tie.Need-positive-requires
 positive-requires c κs = search needs
 
--- src/barred.rt:38:5
 returns-3 : tie.Need-returns-3
 returns-3 c =
     let p = c .before .before .before .before in
-    with-dashed (p .before .before .args .self) _ (toZ w32 (p .before .before .args .w)) _ (p .before .variable .ensures) (p .is-one .ensures) (c .before .before .before .if1 .left) true _ (sym (c .if3 .taken) ∙ c .before .positive .ensures) (c .before .before .bit .ensures)
+    with-dashed (p .before .before .args .self) _ (toZ w32 (p .before .before .args .w)) _ (p .before .variable .ensures) (p .is-one .ensures)
+    (c .before .before .before .if1 .left) true _ (sym (c .if3 .taken) ∙ c .before .positive .ensures) (c .before .before .bit .ensures)
 
--- src/barred.rt:38:5
 returns-4 : tie.Need-returns-4
 returns-4 c =
     let p = c .before .before .before .before in
-    with-dashed (p .before .before .args .self) _ (toZ w32 (p .before .before .args .w)) _ (p .before .variable .ensures) (p .is-one .ensures) (c .before .before .before .if1 .left) false _ (sym (c .if3 .left) ∙ c .before .positive .ensures) (c .before .before .bit .ensures)
+    with-dashed (p .before .before .args .self) _ (toZ w32 (p .before .before .args .w)) _ (p .before .variable .ensures) (p .is-one .ensures)
+    (c .before .before .before .if1 .left) false _ (sym (c .if3 .left) ∙ c .before .positive .ensures) (c .before .before .bit .ensures)
 
 pub with-spec : {M : Type 1} → statement M
 with-spec =

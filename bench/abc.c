@@ -6,6 +6,8 @@
 #include <string.h>
 #include <sys/resource.h>
 
+enum { TIMES = 10 };
+
 bool abc_is_there(void)
 {
     return system("command -v berkeley-abc >/dev/null 2>&1") == 0;
@@ -92,7 +94,7 @@ void abc_sample(Abc *abc, const Pair *pair, const char *command)
 {
     write_pair(pair, "pair.blif");
     if (abc->times == 0) {
-        abc->times = run(command, 1, "write_blif out.blif") > 1 ? 1 : 20;
+        abc->times = run(command, 1, "write_blif out.blif") > 1 ? 1 : TIMES;
         count_rows(abc, "out.blif");
     }
     keep_best(&abc->without, run("", abc->times, ""));

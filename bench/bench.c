@@ -6,7 +6,7 @@
 #include <stdlib.h>
 #include <time.h>
 
-enum { ROUNDS = 9, ABC_ROUNDS = 5, LINES = 64, WORDS = 4 * MAX_CLAUSES };
+enum { ROUNDS = 9, ABC_ROUNDS = 3, LINES = 64, WORDS = 4 * MAX_CLAUSES };
 
 /* A call to measure; it answers a number that both sides must agree on. */
 typedef uint64_t Call(const Pair *pair);

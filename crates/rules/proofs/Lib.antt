@@ -19,4 +19,6 @@ pub mod Judged
 pub mod Refusals
 pub mod Cut
 pub mod From
+pub mod GivenRows
+pub mod PlaSteps
 pub mod Table

@@ -1,16 +1,17 @@
--- A PLA text piece by piece: a row's line by one character more, and the lines of a given list by one row more.
+-- A PLA text piece by piece: a row's line by one character more, the lines of a given list by one row more, and the digits of a number.
 use mathlib.Core.Path.{_≡_, refl, ap, _∙_}
 use mathlib.Core.Bool.{cond}
 use mathlib.Core.List.{List, [], _∷_, _++_, append-assoc, append-nil}
 use Prim.Native.Char.{code}
-use Prim.Native.Nat.{ℕ, zero, suc, _+_, _<_}
+use Prim.Native.Nat.{ℕ, zero, suc, _+_, _/_, _≤_, _<_}
 use native.Mathlib.Omega.{arith}
 use lib.ListN.{length, take}
+use borrow.Author.Tests.{lt-ltb, le-ltb}
 use Rattle.rules.specs.declared.Row.{Row}
 use Rattle.rules.specs.Words.{isOne, fixes}
 use Rattle.rules.specs.Calls.{rowsIn}
 use Rattle.rules.specs.Dimacs.{ascii}
-use Rattle.rules.specs.Pla.{bitChar, rowChars, rowLines}
+use Rattle.rules.specs.Pla.{digit, digits, bitChar, rowChars, rowLines}
 use Rattle.rules.proofs.GivenRows.{rowAt, rowsIn-take}
 
 -- a row's character for variable v, and a row's line
@@ -42,3 +43,16 @@ rowLines-suc n cs vs k a b =
     ap (rowLines n) (rowsIn-take cs vs k a b)
     ∙ rowLines-append n (take k (rowsIn cs vs)) (rowAt cs vs k ∷ [])
     ∙ ap (λ l. rowLines n (take k (rowsIn cs vs)) ++ (rowChars 1 n (rowAt cs vs k) ++ l)) (append-nil (ascii " 1\n"))
+
+-- a number below 1,000 has one digit, two or three
+pub one-digit : (m : ℕ) → m < 10 → digits m ≡ digit m ∷ []
+unfolding digits
+one-digit m l = rw (lt-ltb m 10 l)
+
+pub two-digits : (m : ℕ) → 10 ≤ m → m < 100 → digits m ≡ digit (m / 10) ∷ digit m ∷ []
+unfolding digits
+two-digits m k l = rw (le-ltb m 10 k, lt-ltb m 100 l)
+
+pub three-digits : (m : ℕ) → 100 ≤ m → digits m ≡ digit (m / 100) ∷ digit (m / 10) ∷ digit m ∷ []
+unfolding digits
+three-digits m k = let j : 10 ≤ m = omega arith in rw (le-ltb m 10 j, le-ltb m 100 k)

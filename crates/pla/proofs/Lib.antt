@@ -1,0 +1,2 @@
+-- The laws of putting bytes at a position.
+pub mod Positions

@@ -1,0 +1,2 @@
+-- What a function that puts bytes into a text promises.
+pub mod Put

@@ -1,0 +1,2 @@
+// PLA text.
+mod put;

@@ -14,10 +14,9 @@ head-length : (at : ℕ) (new old : List ℕ) → at ≤ length old → length (
 head-length at new old l = length-append (take at old) new ∙ ap (λ k. k + length new) (length-take-le at old l)
 
 -- the text keeps its length
-pub put-length : (at : ℕ) (new old : List ℕ) → Room at new old → length (put at new old) ≡ length old
+pub put-length : {at : ℕ} {new old : List ℕ} → Room at new old → length (put at new old) ≡ length old
 unfolding put
-put-length at new old room =
-    simp (length-append, length-drop) (omega (arith, length-take-le at old (omega arith)))
+put-length {at} {new} {old} room = simp (length-append, length-drop) (omega (arith, length-take-le at old (omega arith)))
 
 -- no bytes
 pub puts-none : (at : ℕ) (old : List ℕ) → at ≤ length old → Puts at [] old at old
@@ -37,27 +36,33 @@ put-then at xs ys old l =
     let m = at + length xs in
     let h = take at old ++ xs in
     let e : at + length (xs ++ ys) ≡ m + length ys = simp length-append (omega arith) in
+    let rest = ap (λ k. drop (k + length ys) (h ++ drop m old)) (sym (head-length at xs old l)) ∙ drop-append-add h (drop m old) (length ys) in
     ap (λ t. take m t ++ (ys ++ drop (m + length ys) t)) (sym (append-assoc (take at old) xs (drop m old)))
     ∙ ap (λ t. t ++ (ys ++ drop (m + length ys) (h ++ drop m old))) (take-at h (drop m old) m (head-length at xs old l))
-    ∙ ap (λ t. h ++ (ys ++ t)) (ap (λ k. drop (k + length ys) (h ++ drop m old)) (sym (head-length at xs old l)) ∙ drop-append-add h (drop m old) (length ys) ∙ drop-drop (length ys) m old)
+    ∙ ap (λ t. h ++ (ys ++ t)) (rest ∙ drop-drop (length ys) m old)
     ∙ ap (λ k. h ++ (ys ++ drop k old)) (sym e)
     ∙ simp append-assoc
 
--- after the first bytes there is room for the others
-pub room-then : {at : ℕ} {xs old : List ℕ} {end : ℕ} {text : List ℕ} (ys : List ℕ) → Puts at xs old end text → Room at (xs ++ ys) old → Room end ys text
-room-then {at} {xs} {old} ys p room =
-    let r : at + (length xs + length ys) ≤ length old = simp length-append at room in
-    rw (p .next, p .bytes, put-length at xs old (omega arith)) (omega arith)
-
-pub puts-then : {at : ℕ} {xs ys old : List ℕ} {end last : ℕ} {text result : List ℕ} → Puts at xs old end text → Puts end ys text last result → at ≤ length old
-    → Puts at (xs ++ ys) old last result
-puts-then {at} {xs} {ys} {old} p q l =
+pub puts-then : {at : ℕ} {xs ys old : List ℕ} {end last : ℕ} {text result : List ℕ} → Room at (xs ++ ys) old → Puts at xs old end text
+    → Puts end ys text last result → Puts at (xs ++ ys) old last result
+puts-then {at} {xs} {ys} {old} room p q =
     record {
       next = q .next ∙ simp (p .next, length-append) (omega arith);
-      bytes = q .bytes ∙ rw (p .next, p .bytes) (put-then at xs ys old l);
+      bytes = q .bytes ∙ rw (p .next, p .bytes) (put-then at xs ys old (omega arith));
     }
 
+-- room for all bytes is room for the first of them, and after these for the others
+pub room-first : {at : ℕ} {old : List ℕ} (xs ys : List ℕ) → Room at (xs ++ ys) old → Room at xs old
+room-first xs ys room = record { fits = omega (arith, length-append xs ys) }
+
+pub room-then : {at : ℕ} {xs old : List ℕ} {end : ℕ} {text : List ℕ} (ys : List ℕ) → Room at (xs ++ ys) old → Puts at xs old end text → Room end ys text
+room-then {xs} ys room p =
+    let same = ap length (p .bytes) ∙ put-length (room-first xs ys room) in
+    record { fits = omega (arith, p .next, same, length-append xs ys) }
+
 -- one byte more
-pub puts-next : {at : ℕ} {xs old : List ℕ} {end : ℕ} {text : List ℕ} (b : ℕ) → Puts at xs old end text → at ≤ length old → end < length text
+pub puts-next : {at : ℕ} {xs old : List ℕ} {end : ℕ} {text : List ℕ} (b : ℕ) → at + length xs < length old → Puts at xs old end text
     → Puts at (xs ++ (b ∷ [])) old (end + 1) (set text end b)
-puts-next {end} {text} b p l k = puts-then p (puts-one end b text k) l
+puts-next {at} {xs} {old} {end} {text} b l p =
+    let room : Room at (xs ++ (b ∷ [])) old = record { fits = omega (arith, length-append xs (b ∷ [])) } in
+    puts-then room p (puts-one end b text (omega (arith, room-then (b ∷ []) room p .fits)))

@@ -9,8 +9,8 @@ unfoldable pub put : ℕ → List ℕ → List ℕ → List ℕ
 put at new old = take at old ++ (new ++ drop (at + length new) old)
 
 -- There is room for the new bytes from `at` on.
-abbrev pub Room : ℕ → List ℕ → List ℕ → Type 0
-Room at new old = at + length new ≤ length old
+pub record Room (at : ℕ) (new old : List ℕ) : Type 0 where
+  pub fits : at + length new ≤ length old
 
 -- The new bytes are put at `at`, and `end` is the position after them.
 pub record Puts (at : ℕ) (new old : List ℕ) (end : ℕ) (text : List ℕ) : Type 0 where

@@ -1,2 +1,3 @@
 // PLA text.
 mod put;
+mod rows;

@@ -1,6 +1,5 @@
 // Bytes and numbers into a text. Each function puts its bytes at a position and gives the position after them; a text is
 // then put together by handing the position on.
-ghost use Prim.Native.Nat.{_<_};
 ghost use mathlib.Core.Path.{_≡_};
 ghost use lib.ListN.{length};
 ghost use Rattle.rules.specs.Pla.{digit, digits};
@@ -27,7 +26,6 @@ fn digit_of(m: usize) -> u8
 
 // A number below 1,000, without leading zeros.
 pub fn put_digits(text: &mut [u8], at: usize, m: usize) -> usize
-    requires { ⌜ m < 1000 ⌝ }
     requires { ⌜ Room at (digits m) (now text) ⌝ }
     ensures { λ r. ⌜ Puts at (digits m) (now (text .entry)) r (now (text .exit)) ⌝ }
 {
@@ -44,7 +42,6 @@ pub fn put_digits(text: &mut [u8], at: usize, m: usize) -> usize
 
 // How many digits it has.
 pub fn digit_count(m: usize) -> usize
-    requires { ⌜ m < 1000 ⌝ }
     ensures { λ r. ⌜ r ≡ length (digits m) ⌝ }
 {
     if m < 10 {

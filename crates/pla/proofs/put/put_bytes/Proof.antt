@@ -43,7 +43,7 @@ loop-again c =
     let a = c .before .before .before .args in
     let loop = c .before .before .loop in
     let byte = getD (now (a .new)) (loop .k) 0 in
-    let more = puts-next byte (loop .inv .2) (omega arith) (omega arith) in
+    let more = puts-next byte (omega (arith, loop .inv .2 .next)) (loop .inv .2) in
     let here : loop .k < length (now (a .new)) = omega arith in
     (omega arith, length-set (loop .text) (a .at + loop .k) byte ∙ loop .inv .1, rw (add-one, take-suc (now (a .new)) (loop .k) 0 here, ← add-one, ← add-assoc) more)
 

@@ -6,11 +6,12 @@ use Prim.Native.Nat.{ℕ, _≤_, _<_}
 use native.Mathlib.Omega.{arith}
 use lib.Dec.{leb}
 use lib.ListN.{length, take}
-use borrow.Author.Tests.{le-leb, lt-leb}
+use borrow.Author.Tests.{leb-true, le-leb, lt-leb}
+use Rattle.rules.specs.declared.Row.{Row}
 use Rattle.rules.specs.Words.{isRow}
 use Rattle.rules.specs.Method.{maxRows}
 use Rattle.rules.specs.Calls.{rowsIn, areRows}
-use Rattle.rules.proofs.Logic.{and-join}
+use Rattle.rules.proofs.Logic.{and-both, and-join}
 use Rattle.rules.proofs.GivenRows.{rowAt, areRows-fails, count-within, rows-most}
 use Rattle.given.specs.Given.{inForm}
 
@@ -34,3 +35,10 @@ module _ (n count : ℕ) (cs vs : List ℕ) where
   pub in-form : count ≤ length cs → count ≤ length vs → count ≤ maxRows → areRows n (take count (rowsIn cs vs)) ≡ true → true ≡ inForm n count (rowsIn cs vs)
   in-form a b m h =
       sym (and-join (and-join (le-leb count (length (rowsIn cs vs)) (count-within cs vs count a b)) (le-leb count maxRows m)) h)
+
+-- the count of a list in form is within its rows, and at most 256
+pub form-count : (n count : ℕ) (rows : List Row) → inForm n count rows ≡ true → (count ≤ length rows) × (count ≤ maxRows)
+form-count n count rows h =
+    let counts = and-both (leb count (length rows) && leb count maxRows) (areRows n (take count rows)) h .0 in
+    let (within, few) = and-both (leb count (length rows)) (leb count maxRows) counts in
+    (leb-true count (length rows) within, leb-true count maxRows few)

@@ -1,12 +1,13 @@
 -- Bytes put at a position, and then more at the position after them, are all of them put at the first.
-use mathlib.Core.Path.{_≡_, refl, sym, ap, _∙_, subst}
-use mathlib.Core.List.{List, [], _∷_, _++_, append-assoc, append-nil}
-use Prim.Native.Nat.{ℕ, suc, _+_, _≤_, _<_}
-use native.Mathlib.Nat.{add-zero}
+use mathlib.Core.Path.{_≡_, refl, sym, ap, _∙_}
+use mathlib.Core.List.{List, [], _∷_, _++_, append-assoc}
+use Prim.Native.Nat.{ℕ, _+_, _≤_, _<_}
+use native.Mathlib.Nat.{add-zero, zero-add}
 use native.Mathlib.Numerals.{add-one}
 use native.Mathlib.Omega.{arith}
 use lib.ListN.{length, take, drop, set, length-append, length-drop, take-append-drop}
 use lib.Seq.{length-take-le, take-at, drop-append-add, drop-drop, set-split}
+use Rattle.rules.specs.Answers.{over}
 use Rattle.pla.specs.Put.{put, Room, Puts}
 
 -- what is before the position, and the new bytes, end at the position after them
@@ -66,3 +67,8 @@ pub puts-next : {at : ℕ} {xs old : List ℕ} {end : ℕ} {text : List ℕ} (b 
 puts-next {at} {xs} {old} {end} {text} b l p =
     let room : Room at (xs ++ (b ∷ [])) old = record { fits = omega (arith, length-append xs (b ∷ [])) } in
     puts-then room p (puts-one end b text (omega (arith, room-then (b ∷ []) room p .fits)))
+
+-- bytes put at the start are over the first of the old ones
+pub puts-over : {new old : List ℕ} {end : ℕ} {text : List ℕ} → Puts 0 new old end text → (end ≡ length new) × (text ≡ over new old)
+unfolding put
+puts-over {new} {old} p = (p .next ∙ zero-add (length new), p .bytes ∙ ap (λ k. new ++ drop k old) (zero-add (length new)))

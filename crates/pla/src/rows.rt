@@ -1,6 +1,7 @@
 // The lines of rows: a character for each variable, variable 1 first, and then what closes the line.
 use crate::put::put_bytes;
-use rules::{Row, Var};
+use rules::Row;
+use rules::Var;
 ghost use mathlib.Core.List.{[], _∷_};
 ghost use mathlib.Core.Path.{_≡_};
 ghost use Prim.Native.Nat.{_≤_};
@@ -54,7 +55,14 @@ fn put_row(text: &mut [u8], at: usize, n: u32, row: Row) -> usize
 }
 
 // The first `count` rows of two runs.
-pub fn put_rows(text: &mut [u8], at: usize, n: u32, count: usize, care: &[u32], value: &[u32]) -> usize
+pub fn put_rows(
+    text: &mut [u8],
+    at: usize,
+    n: u32,
+    count: usize,
+    care: &[u32],
+    value: &[u32],
+) -> usize
     requires { ⌜ n ≤ maxInputs ⌝ }
     requires { ⌜ count ≤ length (rowsIn (now care) (now value)) ⌝ }
     requires { ⌜ Room at (rowLines n (take count (rowsIn (now care) (now value)))) (now text) ⌝ }
@@ -63,7 +71,15 @@ pub fn put_rows(text: &mut [u8], at: usize, n: u32, count: usize, care: &[u32], 
     let mut end = at;
     let mut k = 0;
     while k < count {
-        end = put_row(text, end, n, Row { care: care[k], value: value[k] });
+        end = put_row(
+            text,
+            end,
+            n,
+            Row {
+                care: care[k],
+                value: value[k],
+            },
+        );
         k += 1;
     }
     end

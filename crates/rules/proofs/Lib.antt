@@ -19,6 +19,7 @@ pub mod Judged
 pub mod Refusals
 pub mod Cut
 pub mod From
+pub mod Inputs
 pub mod GivenRows
 pub mod PlaSteps
 pub mod Table

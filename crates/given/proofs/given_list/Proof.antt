@@ -5,7 +5,7 @@ use Prim.Native.Nat.{_-_, _≤_}
 use native.Mathlib.Numerals.{add-one}
 use native.Mathlib.Omega.{arith}
 use denote.Ref.{now}
-use lib.ListN.{length, take}
+use lib.ListN.{take}
 use Rattle.rules.specs.Calls.{rowsIn, areRows}
 use Rattle.rules.proofs.Logic.{and-join, not-yes, not-no}
 use Rattle.rules.proofs.GivenRows.{areRows-suc}

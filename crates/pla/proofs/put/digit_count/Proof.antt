@@ -5,8 +5,6 @@ use lib.ListN.{length}
 use Rattle.rules.proofs.PlaSteps.{one-digit, two-digits, three-digits}
 use Rattle.pla.proofs.put.digit_count.Statement.{statement}
 use Rattle.pla.proofs.put.digit_count.Tie as tie
-use Rattle.pla.proofs.put.digit_count.Reads as reads
-use Rattle.pla.proofs.put.digit_count.Lts as lts
 
 returns : tie.Need-returns
 returns c = sym (ap length (one-digit (c .before .args .m) (omega arith)))

@@ -11,8 +11,6 @@ use Rattle.pla.specs.Put.{Puts}
 use Rattle.pla.proofs.Positions.{puts-none, puts-next}
 use Rattle.pla.proofs.put.put_bytes.Statement.{statement}
 use Rattle.pla.proofs.put.put_bytes.Tie as tie
-use Rattle.pla.proofs.put.put_bytes.Reads as reads
-use Rattle.pla.proofs.put.put_bytes.Lts as lts
 
 abbrev Inv-loop : tie.InvT-loop
 Inv-loop text₀ at new k₀ text k = (k ≤ length new) × (length text ≡ length text₀) × Puts at (take k new) text₀ (at + k) text

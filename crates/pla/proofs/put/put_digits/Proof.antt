@@ -8,10 +8,6 @@ use Rattle.rules.proofs.PlaSteps.{one-digit, two-digits, three-digits}
 use borrow.Author.Needs.{needs}
 use Rattle.pla.proofs.put.put_digits.Statement.{statement}
 use Rattle.pla.proofs.put.put_digits.Tie as tie
-use Rattle.pla.proofs.put.put_digits.Reads as reads
-use Rattle.pla.proofs.put.put_digits.Lts as lts
-use Rattle.pla.proofs.put.digit_of.Reads as digit-of-reads
-use Rattle.pla.proofs.put.put_bytes.Reads as put-bytes-reads
 
 digit-of-requires : tie.Need-digit-of-requires
 digit-of-requires c κs = search needs

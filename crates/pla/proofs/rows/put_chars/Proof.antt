@@ -12,9 +12,6 @@ use Rattle.pla.specs.Put.{Puts}
 use Rattle.pla.proofs.Positions.{puts-none, puts-next}
 use Rattle.pla.proofs.rows.put_chars.Statement.{statement}
 use Rattle.pla.proofs.rows.put_chars.Tie as tie
-use Rattle.pla.proofs.rows.put_chars.Reads as reads
-use Rattle.pla.proofs.rows.put_chars.Lts as lts
-use Rattle.pla.proofs.rows.row_char.Reads as row-char-reads
 
 abbrev Inv-loop : tie.InvT-loop
 Inv-loop text₀ at n row end₀ k₀ text end k = (k ≤ n) × (length text ≡ length text₀) × Puts at (rowChars 1 k row) text₀ end text

@@ -6,10 +6,6 @@ use Rattle.pla.proofs.Positions.{room-first, room-then, puts-then}
 use borrow.Author.Needs.{needs}
 use Rattle.pla.proofs.rows.put_row.Statement.{statement}
 use Rattle.pla.proofs.rows.put_row.Tie as tie
-use Rattle.pla.proofs.rows.put_row.Reads as reads
-use Rattle.pla.proofs.rows.put_row.Lts as lts
-use Rattle.pla.proofs.put.put_bytes.Reads as put-bytes-reads
-use Rattle.pla.proofs.rows.put_chars.Reads as put-chars-reads
 
 put-chars-requires : tie.Need-put-chars-requires
 put-chars-requires c κs =

@@ -1,5 +1,5 @@
 -- The loop has put the lines of the first k rows.
-use mathlib.Core.Path.{_≡_, refl, sym, ap, _∙_}
+use mathlib.Core.Path.{_≡_, refl, _∙_}
 use mathlib.Core.List.{List, [], _∷_, _++_}
 use Prim.Native.Nat.{ℕ, suc, _-_, _≤_, _<_}
 use native.Mathlib.Numerals.{add-one}
@@ -14,9 +14,6 @@ use Rattle.pla.specs.Put.{Room, Puts}
 use Rattle.pla.proofs.Positions.{puts-none, puts-then, room-first, room-then}
 use Rattle.pla.proofs.rows.put_rows.Statement.{statement}
 use Rattle.pla.proofs.rows.put_rows.Tie as tie
-use Rattle.pla.proofs.rows.put_rows.Reads as reads
-use Rattle.pla.proofs.rows.put_rows.Lts as lts
-use Rattle.pla.proofs.rows.put_row.Reads as put-row-reads
 
 abbrev Inv-loop : tie.InvT-loop
 Inv-loop text₀ at n count care value end₀ k₀ text end k = (k ≤ count) × (length text ≡ length text₀) × Puts at (rowLines n (take k (rowsIn care value))) text₀ end text

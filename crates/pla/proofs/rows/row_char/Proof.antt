@@ -1,15 +1,10 @@
 -- A dash where the row does not fix the variable, else the variable's value.
-use mathlib.Core.Path.{_≡_, sym, _∙_}
-use mathlib.Core.Bool.{true, false}
-use Rattle.rules.specs.Words.{isOne}
+use mathlib.Core.Path.{sym, _∙_}
 use Rattle.rules.specs.Pla.{rowChars}
 use Rattle.rules.proofs.Logic.{not-yes, not-no}
 use borrow.Author.Needs.{needs}
 use Rattle.pla.proofs.rows.row_char.Statement.{statement}
 use Rattle.pla.proofs.rows.row_char.Tie as tie
-use Rattle.pla.proofs.rows.row_char.Reads as reads
-use Rattle.pla.proofs.rows.row_char.Lts as lts
-use Rattle.pla.proofs.rows.is_one.Reads as is-one-reads
 
 is-one-requires : tie.Need-is-one-requires
 is-one-requires c κs = search needs

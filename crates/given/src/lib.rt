@@ -24,13 +24,11 @@ pub fn given_list(n: u32, count: usize, care: &[u32], value: &[u32]) -> bool
     }
     let mut k = 0;
     while k < count {
-        if !is_row(
-            n,
-            Row {
-                care: care[k],
-                value: value[k],
-            },
-        ) {
+        let row = Row {
+            care: care[k],
+            value: value[k],
+        };
+        if !is_row(n, row) {
             return false;
         }
         k += 1;

@@ -71,15 +71,11 @@ pub fn put_rows(
     let mut end = at;
     let mut k = 0;
     while k < count {
-        end = put_row(
-            text,
-            end,
-            n,
-            Row {
-                care: care[k],
-                value: value[k],
-            },
-        );
+        let row = Row {
+            care: care[k],
+            value: value[k],
+        };
+        end = put_row(text, end, n, row);
         k += 1;
     }
     end

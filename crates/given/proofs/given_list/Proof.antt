@@ -38,17 +38,17 @@ loop-holds : tie.Need-loop-holds Inv-loop μ-loop
 unfolding areRows
 loop-holds c = (omega arith, refl)
 
-mul-t9 : tie.Need-mul-t9 Inv-loop μ-loop
-mul-t9 c = omega arith
+mul-t10 : tie.Need-mul-t10 Inv-loop μ-loop
+mul-t10 c = omega arith
 
-shared-slice-read-t11 : tie.Need-shared-slice-read-t11 Inv-loop μ-loop
-shared-slice-read-t11 c = omega arith
+shared-slice-read-t12 : tie.Need-shared-slice-read-t12 Inv-loop μ-loop
+shared-slice-read-t12 c = omega arith
 
-mul-t12 : tie.Need-mul-t12 Inv-loop μ-loop
-mul-t12 c = omega arith
+mul-t13 : tie.Need-mul-t13 Inv-loop μ-loop
+mul-t13 c = omega arith
 
-shared-slice-read-t14 : tie.Need-shared-slice-read-t14 Inv-loop μ-loop
-shared-slice-read-t14 c = omega arith
+shared-slice-read-t15 : tie.Need-shared-slice-read-t15 Inv-loop μ-loop
+shared-slice-read-t15 c = omega arith
 
 is-row-requires : tie.Need-is-row-requires Inv-loop μ-loop
 is-row-requires c κs = c .before .before .before .before .before .before .before .before .before .pre
@@ -89,10 +89,10 @@ given-list-spec =
     returns-2
     returns-3
     loop-holds
-    mul-t9
-    shared-slice-read-t11
-    mul-t12
-    shared-slice-read-t14
+    mul-t10
+    shared-slice-read-t12
+    mul-t13
+    shared-slice-read-t15
     is-row-requires
     returns-4
     add-k

@@ -36,17 +36,17 @@ loop-holds c =
     let a = c .before .before .before .args in
     (omega arith, refl, puts-none (a .at) (now (a .text)) (omega (arith, c .before .before .before .pre .1 .1 .fits)))
 
-mul-t12 : tie.Need-mul-t12 Inv-loop μ-loop
-mul-t12 c = omega (arith, rows-most (now (c .before .before .before .before .before .before .args .care)) (now (c .before .before .before .before .before .before .args .value)) .0)
+mul-t11 : tie.Need-mul-t11 Inv-loop μ-loop
+mul-t11 c = omega (arith, rows-most (now (c .before .before .before .before .before .args .care)) (now (c .before .before .before .before .before .args .value)) .0)
 
-shared-slice-read-t14 : tie.Need-shared-slice-read-t14 Inv-loop μ-loop
-shared-slice-read-t14 c = omega (arith, rows-most (now (c .before .before .before .before .before .before .before .args .care)) (now (c .before .before .before .before .before .before .before .args .value)) .0)
+shared-slice-read-t13 : tie.Need-shared-slice-read-t13 Inv-loop μ-loop
+shared-slice-read-t13 c = omega (arith, rows-most (now (c .before .before .before .before .before .before .args .care)) (now (c .before .before .before .before .before .before .args .value)) .0)
 
-mul-t15 : tie.Need-mul-t15 Inv-loop μ-loop
-mul-t15 c = omega (arith, rows-most (now (c .before .before .before .before .before .before .before .args .care)) (now (c .before .before .before .before .before .before .before .args .value)) .1)
+mul-t14 : tie.Need-mul-t14 Inv-loop μ-loop
+mul-t14 c = omega (arith, rows-most (now (c .before .before .before .before .before .before .args .care)) (now (c .before .before .before .before .before .before .args .value)) .1)
 
-shared-slice-read-t17 : tie.Need-shared-slice-read-t17 Inv-loop μ-loop
-shared-slice-read-t17 c = omega (arith, rows-most (now (c .before .before .before .before .before .before .before .before .args .care)) (now (c .before .before .before .before .before .before .before .before .args .value)) .1)
+shared-slice-read-t16 : tie.Need-shared-slice-read-t16 Inv-loop μ-loop
+shared-slice-read-t16 c = omega (arith, rows-most (now (c .before .before .before .before .before .before .before .args .care)) (now (c .before .before .before .before .before .before .before .args .value)) .1)
 
 put-row-requires : tie.Need-put-row-requires Inv-loop μ-loop
 put-row-requires c κs =
@@ -89,10 +89,10 @@ put-rows-spec =
     Inv-loop
     μ-loop
     loop-holds
-    mul-t12
-    shared-slice-read-t14
-    mul-t15
-    shared-slice-read-t17
+    mul-t11
+    shared-slice-read-t13
+    mul-t14
+    shared-slice-read-t16
     put-row-requires
     add-k
     loop-less

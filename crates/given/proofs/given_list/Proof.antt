@@ -70,7 +70,8 @@ loop-again c =
     let a = c .before .before .before .before .before .before .before .before .before .before .before .args in
     let k = c .before .before .before .before .before .loop .k in
     let row = sym (c .before .is-row .ensures) ∙ not-no (c .before .is-row .result) (c .if4 .left) in
-    (omega arith, rw add-one (areRows-suc (a .n) (now (a .care)) (now (a .value)) k (omega arith) (omega arith) ∙ and-join (c .before .before .before .before .before .loop .inv .1) row))
+    let more = areRows-suc (a .n) (now (a .care)) (now (a .value)) k (omega arith) (omega arith) in
+    (omega arith, rw add-one (more ∙ and-join (c .before .before .before .before .before .loop .inv .1) row))
 
 returns-5 : tie.Need-returns-5 Inv-loop μ-loop
 returns-5 c =

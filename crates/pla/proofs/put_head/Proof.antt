@@ -19,14 +19,24 @@ fromOutput count = ascii "\n.o 1\n.p " ++ fromCount count
 abbrev fromInputs : ℕ → ℕ → List ℕ
 fromInputs n count = digits n ++ fromOutput count
 
--- room for what is left after the first piece, the second and so on
-room1 : (c : tie.After-put-bytes) → let a = c .before .before .before .before .args in Room (c .put-bytes .result) (fromInputs (a .n) (a .count)) (c .put-bytes .last .0)
-room1 c = room-then (fromInputs _ _) (c .before .before .before .before .pre) (c .put-bytes .ensures)
+-- the function's entry, from each piece
+abbrev start1 : tie.After-put-bytes → tie.Start
+start1 c = c .before .before .before .before
 
-room2 : (c : tie.After-put-digits) → Room (c .put-digits .result) (fromOutput (c .before .before .before .before .before .before .before .before .args .count)) (c .put-digits .last .0)
+abbrev start2 : tie.After-put-digits → tie.Start
+start2 c = start1 (c .before .before .before .before)
+
+abbrev start3 : tie.After-put-bytes2 → tie.Start
+start3 c = start2 (c .before .before .before .before .before)
+
+-- room for what is left after the first piece, the second and so on
+room1 : (c : tie.After-put-bytes) → Room (c .put-bytes .result) (fromInputs (start1 c .args .n) (start1 c .args .count)) (c .put-bytes .last .0)
+room1 c = room-then (fromInputs _ _) (start1 c .pre) (c .put-bytes .ensures)
+
+room2 : (c : tie.After-put-digits) → Room (c .put-digits .result) (fromOutput (start2 c .args .count)) (c .put-digits .last .0)
 room2 c = room-then (fromOutput _) (room1 (c .before .before .before .before)) (c .put-digits .ensures)
 
-room3 : (c : tie.After-put-bytes2) → Room (c .put-bytes2 .result) (fromCount (c .before .before .before .before .before .before .before .before .before .before .before .before .before .args .count)) (c .put-bytes2 .last .0)
+room3 : (c : tie.After-put-bytes2) → Room (c .put-bytes2 .result) (fromCount (start3 c .args .count)) (c .put-bytes2 .last .0)
 room3 c = room-then (fromCount _) (room2 (c .before .before .before .before .before)) (c .put-bytes2 .ensures)
 
 room4 : (c : tie.After-put-digits2) → Room (c .put-digits2 .result) (ascii "\n") (c .put-digits2 .last .0)
@@ -45,7 +55,7 @@ slice-aggregate-put-bytes-2 : tie.Need-slice-aggregate-put-bytes-2
 slice-aggregate-put-bytes-2 c = search needs
 
 put-bytes-requires-2 : tie.Need-put-bytes-requires-2
-put-bytes-requires-2 c κs = room-first (ascii "\n.o 1\n.p ") (fromCount (c .before .before .before .before .before .before .before .before .before .before .before .before .args .count)) (room2 (c .before .before .before .before))
+put-bytes-requires-2 c κs = room-first (ascii "\n.o 1\n.p ") (fromCount (start2 (c .before .before .before .before) .args .count)) (room2 (c .before .before .before .before))
 
 put-digits-requires-2 : tie.Need-put-digits-requires-2
 put-digits-requires-2 c κs = room-first (digits _) (ascii "\n") (room3 (c .before .before .before))
@@ -66,7 +76,7 @@ returns c =
     let p3 = p4 .before .before .before .before in
     let p2 = p3 .before .before .before .before .before in
     let p1 = p2 .before .before .before .before in
-    puts-then (p1 .before .before .before .before .pre) (p1 .put-bytes .ensures)
+    puts-then (start1 p1 .pre) (p1 .put-bytes .ensures)
     (puts-then (room1 p1) (p2 .put-digits .ensures)
     (puts-then (room2 p2) (p3 .put-bytes2 .ensures)
     (puts-then (room3 p3) (p4 .put-digits2 .ensures) (p5 .put-bytes3 .ensures))))

@@ -30,7 +30,8 @@ mul-result c = omega (arith, rows-most (c .before .before .args .count) (c .befo
 
 add-result-4 : tie.Need-add-result-4
 add-result-4 c =
-    omega (arith, digits-three (c .before .before .args .n), digits-three (c .before .before .args .count), rows-most (c .before .before .args .count) (c .before .before .args .n) (c .before .before .pre .1) (c .before .before .pre .0))
+    let start = c .before .before in
+    omega (arith, digits-three (start .args .n), digits-three (start .args .count), rows-most (start .args .count) (start .args .n) (start .pre .1) (start .pre .0))
 
 returns : tie.Need-returns
 returns c = search needs

@@ -42,7 +42,9 @@ same-length-2 c = search needs
 returns-2 : tie.Need-returns-2
 returns-2 c =
     let m = c .before .before .before .before .before .before .before .before .before .before .args .m in
-    let e : digits m ≡ c .before .before .before .before .before .before .digit-of2 .result ∷ c .before .before .before .before .before .before .before .before .digit-of .result ∷ [] = cc (two-digits m (omega arith) (omega arith)) in
+    let tens = c .before .before .before .before .before .before .digit-of2 .result in
+    let ones = c .before .before .before .before .before .before .before .before .digit-of .result in
+    let e : digits m ≡ tens ∷ ones ∷ [] = cc (two-digits m (omega arith) (omega arith)) in
     rw e (c .before .before .put-bytes2 .ensures)
 
 digit-of-requires-3 : tie.Need-digit-of-requires-3
@@ -60,7 +62,10 @@ same-length-3 c = search needs
 returns-3 : tie.Need-returns-3
 returns-3 c =
     let m = c .before .before .before .before .before .before .before .before .before .before .before .args .m in
-    let e : digits m ≡ c .before .before .before .before .digit-of3 .result ∷ c .before .before .before .before .before .before .before .digit-of2 .result ∷ c .before .before .before .before .before .before .before .before .before .digit-of .result ∷ [] = cc (three-digits m (omega arith)) in
+    let hundreds = c .before .before .before .before .digit-of3 .result in
+    let tens = c .before .before .before .before .before .before .before .digit-of2 .result in
+    let ones = c .before .before .before .before .before .before .before .before .before .digit-of .result in
+    let e : digits m ≡ hundreds ∷ tens ∷ ones ∷ [] = cc (three-digits m (omega arith)) in
     rw e (c .before .before .put-bytes3 .ensures)
 
 pub put-digits-spec : {M : Type 1} → statement M

@@ -1,7 +1,7 @@
 -- The loop has put the characters of the first k variables.
 use mathlib.Core.Path.{_≡_, refl, sym, ap, _∙_}
 use mathlib.Core.List.{_++_}
-use Prim.Native.Nat.{_-_, _≤_}
+use Prim.Native.Nat.{_-_, _≤_, _<_}
 use native.Mathlib.Omega.{arith}
 use denote.Ref.{now}
 use lib.ListN.{length, length-set}
@@ -19,6 +19,12 @@ Inv-loop text₀ at n row end₀ k₀ text end k = (k ≤ n) × (length text ≡
 abbrev μ-loop : tie.MeasureT-loop
 μ-loop text₀ at n row end₀ k₀ text end k = n - k
 
+-- there is room for the next character
+within : (c : tie.After-row-char Inv-loop μ-loop) → c .before .before .loop .end < length (now (c .before .before .before .before .args .text))
+within c =
+    let a = c .before .before .before .before .args in
+    omega (arith, row-size 1 (c .before .before .loop .k) (a .row), row-size 1 (a .n) (a .row))
+
 loop-holds : tie.Need-loop-holds Inv-loop μ-loop
 unfolding rowChars
 loop-holds c = (omega arith, refl, puts-none (c .before .args .at) (now (c .before .args .text)) (omega arith))
@@ -30,10 +36,10 @@ row-char-requires : tie.Need-row-char-requires Inv-loop μ-loop
 row-char-requires c κs = (omega arith, omega arith)
 
 slice-write-text : tie.Need-slice-write-text Inv-loop μ-loop
-slice-write-text c = omega (arith, row-size 1 (c .before .before .loop .k) (c .before .before .before .before .args .row), row-size 1 (c .before .before .before .before .args .n) (c .before .before .before .before .args .row))
+slice-write-text c = omega (arith, within c)
 
 add-end : tie.Need-add-end Inv-loop μ-loop
-add-end c = omega (arith, row-size 1 (c .before .before .loop .k) (c .before .before .before .before .args .row), row-size 1 (c .before .before .before .before .args .n) (c .before .before .before .before .args .row))
+add-end c = omega (arith, within c)
 
 add-k : tie.Need-add-k Inv-loop μ-loop
 add-k c = omega arith
@@ -45,7 +51,7 @@ loop-again : tie.Need-loop-again Inv-loop μ-loop
 loop-again c =
     let a = c .before .before .before .before .args in
     let loop = c .before .before .loop in
-    let more = puts-next (c .row-char .result) (omega (arith, row-size 1 (loop .k) (a .row), row-size 1 (a .n) (a .row))) (loop .inv .2) in
+    let more = puts-next (c .row-char .result) (omega (arith, within c, loop .inv .2 .next)) (loop .inv .2) in
     let chars = rowChars-more (loop .k) (a .row) ∙ ap (λ l. rowChars 1 (loop .k) (a .row) ++ l) (sym (c .row-char .ensures)) in
     (omega arith, length-set (loop .text) (loop .end) (c .row-char .result) ∙ loop .inv .1, rw chars more)
 

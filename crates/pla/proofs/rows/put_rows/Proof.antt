@@ -37,16 +37,16 @@ loop-holds c =
     (omega arith, refl, puts-none (a .at) (now (a .text)) (omega (arith, c .before .before .before .pre .1 .1 .fits)))
 
 mul-t11 : tie.Need-mul-t11 Inv-loop μ-loop
-mul-t11 c = omega (arith, rows-most (now (c .before .before .before .before .before .args .care)) (now (c .before .before .before .before .before .args .value)) .0)
+mul-t11 c = let a = c .before .before .before .before .before .args in omega (arith, rows-most (now (a .care)) (now (a .value)) .0)
 
 shared-slice-read-t13 : tie.Need-shared-slice-read-t13 Inv-loop μ-loop
-shared-slice-read-t13 c = omega (arith, rows-most (now (c .before .before .before .before .before .before .args .care)) (now (c .before .before .before .before .before .before .args .value)) .0)
+shared-slice-read-t13 c = let a = c .before .before .before .before .before .before .args in omega (arith, rows-most (now (a .care)) (now (a .value)) .0)
 
 mul-t14 : tie.Need-mul-t14 Inv-loop μ-loop
-mul-t14 c = omega (arith, rows-most (now (c .before .before .before .before .before .before .args .care)) (now (c .before .before .before .before .before .before .args .value)) .1)
+mul-t14 c = let a = c .before .before .before .before .before .before .args in omega (arith, rows-most (now (a .care)) (now (a .value)) .1)
 
 shared-slice-read-t16 : tie.Need-shared-slice-read-t16 Inv-loop μ-loop
-shared-slice-read-t16 c = omega (arith, rows-most (now (c .before .before .before .before .before .before .before .args .care)) (now (c .before .before .before .before .before .before .before .args .value)) .1)
+shared-slice-read-t16 c = let a = c .before .before .before .before .before .before .before .args in omega (arith, rows-most (now (a .care)) (now (a .value)) .1)
 
 put-row-requires : tie.Need-put-row-requires Inv-loop μ-loop
 put-row-requires c κs =

@@ -1,0 +1,2 @@
+-- Laws of the search, by subject.
+pub mod Rows

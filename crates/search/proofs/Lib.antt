@@ -1,2 +1,3 @@
 -- Laws of the search, by subject.
 pub mod Rows
+pub mod Liveness

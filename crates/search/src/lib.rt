@@ -4,6 +4,7 @@ mod cut;
 use rules::Setting;
 
 pub use cut::inside;
+pub use cut::live;
 
 pub enum Found {
     At(Setting),

@@ -1,3 +1,4 @@
 -- Laws of the search, by subject.
 pub mod Rows
+pub mod Covers
 pub mod Liveness

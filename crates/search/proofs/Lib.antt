@@ -2,3 +2,5 @@
 pub mod Rows
 pub mod Covers
 pub mod Liveness
+pub mod Places
+pub mod Steps

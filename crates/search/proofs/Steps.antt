@@ -7,9 +7,11 @@ use Prim.Native.Nat.{ℕ, _+_, _-_, _≤_, _<_}
 use lib.ListN.{length, getD, drop, drop-of-length-le}
 use Rattle.rules.specs.declared.Row.{Row}
 use Rattle.rules.specs.declared.Setting.{Setting}
-use Rattle.rules.specs.Words.{isOne, fixes, atZero, atOne}
-use Rattle.rules.specs.Search.{orElse, smallest}
-use Rattle.rules.proofs.From.{smallestFrom}
+use Rattle.rules.specs.Words.{isOrder, isOne, fixes, dashes, atZero, atOne}
+use Rattle.rules.specs.Search.{orElse, smallest, notBelow}
+use Rattle.rules.proofs.Bits.{bit, bit-zero}
+use Rattle.rules.proofs.Orders.{is-order}
+use Rattle.rules.proofs.From.{Free, smallestFrom, from-is}
 use Rattle.rules.proofs.Reach.{smallest-pass, smallest-try}
 use Rattle.search.specs.declared.Found.{Found}
 use Rattle.search.specs.declared.Found.the-variants.{At, Nothing}
@@ -65,3 +67,18 @@ module _ (P : ℕ → Bool) (start : ℕ) (order : List ℕ) (place : ℕ) (r : 
           → o ≡ smallest P (drop (place + 1) order) high → o ≡ smallestFrom P start (drop place order) r
       unfolding smallestFrom
       from-above high high-is o z f = rw (first-left order place v h e, b, ← low-is, ← high-is, z, ← f)
+
+-- before the first place: the row without literals fixes nothing, and the whole order is left
+abbrev Dashes : Row → Type 0
+Dashes r = (r .care ≡ 0) × (r .value ≡ 0)
+
+is-dashes : (r : Row) → Dashes r → r ≡ dashes
+is-dashes r d = λ i. record { care = d .0 i; value = d .1 i }
+
+pub dashes-free : (vs : List ℕ) (r : Row) → Dashes r → Free vs r
+dashes-free vs r d i h = ap (bit i) (d .0) ∙ bit-zero i
+
+pub from-first : (P : ℕ → Bool) (start : ℕ) (order : List ℕ) → isOrder (length order) order ≡ true → (r : Row) → Dashes r → (o : Option ℕ)
+    → o ≡ smallestFrom P start order r → o ≡ smallest (notBelow order start P) order dashes
+from-first P start order h r d o e =
+    e ∙ ap (smallestFrom P start order) (is-dashes r d) ∙ sym (from-is (length order) order (is-order (length order) order h) P start)

@@ -1,10 +1,10 @@
 -- Bytes as words, four at a time.
-use mathlib.Core.Path.{_≡_, refl, sym, ap, ap₂, _∙_}
+use mathlib.Core.Path.{_≡_, refl, sym, ap, _∙_}
 use mathlib.Core.Bool.{Bool, _&&_}
-use mathlib.Core.List.{List, [], _∷_, map}
+use mathlib.Core.List.{List, [], _∷_}
 use Prim.Native.Nat.{ℕ, zero, suc, _+_, _*_, _/_, _%_, _≤_, _<_}
 use native.Mathlib.Omega.{arith}
-use lib.IntN.{ℤ, pos}
+use lib.IntN.{pos}
 use lib.ListN.{length, getD, length-map, List·getD-map}
 use mir.Syntax.{w32}
 use mir.Val.{toZ}
@@ -26,10 +26,12 @@ four-on a b c d bs i j e = let f : i ≡ suc (suc (suc (suc j))) = omega arith i
 
 word-on : (a b c d : ℕ) (bs : List ℕ) (k : ℕ) → wordFrom (a ∷ b ∷ c ∷ d ∷ bs) (4 * suc k) ≡ wordFrom bs (4 * k)
 word-on a b c d bs k =
-    rw (four-on a b c d bs (4 * suc k) (4 * k) (omega arith),
+    rw (
+      four-on a b c d bs (4 * suc k) (4 * k) (omega arith),
       four-on a b c d bs (4 * suc k + 1) (4 * k + 1) (omega arith),
       four-on a b c d bs (4 * suc k + 2) (4 * k + 2) (omega arith),
-      four-on a b c d bs (4 * suc k + 3) (4 * k + 3) (omega arith))
+      four-on a b c d bs (4 * suc k + 3) (4 * k + 3) (omega arith),
+    )
 
 pub word-is : (bs : List ℕ) (k : ℕ) → k < length bs / 4 → getD (wordsOf bs) k 0 ≡ wordFrom bs (4 * k)
 unfolding wordsOf

@@ -1,8 +1,8 @@
 -- One turn of a loop over the numbers of a sheet that asks for a literal that passes in every clause.
-use mathlib.Core.Path.{_≡_, refl, sym, ap, _∙_}
-use mathlib.Core.Bool.{Bool, true, false, not, cond, _&&_, _||_}
+use mathlib.Core.Path.{_≡_, sym, ap, _∙_}
+use mathlib.Core.Bool.{Bool, true, false, cond, _&&_, _||_}
 use mathlib.Core.List.{List, [], _∷_}
-use Prim.Native.Nat.{ℕ, zero, suc, _+_, _-_, _/_, _%_, _^_, _≤_, _<_}
+use Prim.Native.Nat.{ℕ, zero, suc, _+_, _≤_, _<_}
 use native.Mathlib.Numerals.{add-one}
 use native.Mathlib.Omega.{arith}
 use lib.Dec.{eqb, leb}
@@ -12,10 +12,8 @@ use lib.Seq.{drop-cons}
 use mir.Syntax.{w32}
 use mir.Val.{toZ}
 use borrow.Author.Tests.{eq-eqb, ne-eqb, leb-true}
-use Rattle.rules.specs.declared.Row.{Row}
-use Rattle.rules.specs.Sheets.{variable, positive, closes, everyClause, inReach}
+use Rattle.rules.specs.Sheets.{maxNumbers, maxClauses, variable, everyClause, clauses, endsClosed, inReach, wellFormed}
 use Rattle.rules.proofs.Logic.{and-both}
-use Rattle.sheets.specs.Open.{isOpen}
 use Rattle.sheets.proofs.Signs.{closes-of}
 
 -- every number of a sheet in reach is in reach
@@ -24,6 +22,13 @@ unfolding inReach
 reach-at n [] k h l = absurd (omega arith)
 reach-at n (z ∷ zs) zero h l = leb-true (variable z) n (and-both (leb (variable z) n) (inReach n zs) h .0)
 reach-at n (z ∷ zs) (suc k) h l = reach-at n zs k (and-both (leb (variable z) n) (inReach n zs) h .1) (omega arith)
+
+pub form-reach : (n : ℕ) (zs : List ℤ) → wellFormed n zs ≡ true → inReach n zs ≡ true
+unfolding wellFormed
+form-reach n zs h =
+    let p = and-both (leb (length zs) maxNumbers) (leb (clauses zs) maxClauses && (endsClosed true zs && inReach n zs)) h in
+    let q = and-both (leb (clauses zs) maxClauses) (endsClosed true zs && inReach n zs) (p .1) in
+    and-both (endsClosed true zs) (inReach n zs) (q .1) .1
 
 -- the k-th number, whose bits are w; `met` becomes `next`
 module _ (t : ℤ → Bool) (zs : List ℤ) (k w : ℕ) (h : k < length zs) (e : toZ w32 w ≡ getD zs k (pos 0)) (met whole : Bool)

@@ -5,3 +5,6 @@ pub mod Forms
 pub mod Orders
 pub mod Openness
 pub mod Clauses
+pub mod Bars
+pub mod Pairs
+pub mod Barring

@@ -1,13 +1,12 @@
 -- Sheets against partial settings: what is satisfied is open, what is open further on is open before, and open means satisfied
 -- where every variable is fixed.
 use mathlib.Core.Path.{_≡_, refl, sym, ap, _∙_}
-use mathlib.Core.Bool.{Bool, true, false, not, cond, _&&_, _||_}
+use mathlib.Core.Bool.{Bool, true, false, not, cond, _||_}
 use mathlib.Core.List.{List, [], _∷_}
-use Prim.Native.Nat.{ℕ, _-_, _^_, _≤_, _<_}
+use Prim.Native.Nat.{ℕ, _-_, _≤_}
 use native.Mathlib.Omega.{arith}
-use lib.Bits.{bitOr}
 use lib.Dec.{eqb, leb}
-use lib.IntN.{ℤ, pos}
+use lib.IntN.{ℤ}
 use borrow.Author.Tests.{eqb-true, leb-true}
 use Rattle.rules.specs.declared.Row.{Row}
 use Rattle.rules.specs.Words.{isOne, withOne, fixes, full, atZero, atOne}
@@ -54,9 +53,9 @@ open-before-1 : (v : ℕ) (r : Row) (z : ℤ) → fixes r v ≡ false → isOpen
 open-before-1 v r z p h =
     test (fixes r (variable z))
     (λ f.
-      true-open r z
-      (ap (λ (b : Bool). cond (positive z) b (not b)) (sym (other-bit v (variable z) (r .value) (other-fixed v (variable z) r p f)))
-      ∙ (rw (set-fixed v r (variable z) f) at h)))
+    true-open r z
+    (ap (λ (b : Bool). cond (positive z) b (not b)) (sym (other-bit v (variable z) (r .value) (other-fixed v (variable z) r p f)))
+    ∙ (rw (set-fixed v r (variable z) f) at h)))
     (λ f. rw f)
 
 -- sheets

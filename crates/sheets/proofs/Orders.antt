@@ -1,10 +1,9 @@
 -- Orders: the loops that count, and that test each number.
-use mathlib.Core.Path.{_≡_, refl, sym, ap, _∙_}
+use mathlib.Core.Path.{_≡_, sym, ap, _∙_}
 use mathlib.Core.Bool.{Bool, true, false, _&&_}
-use mathlib.Core.List.{List, [], _∷_}
+use mathlib.Core.List.{List}
 use Prim.Native.Nat.{ℕ, suc, _+_, _-_, _≤_, _<_}
 use native.Mathlib.Numerals.{add-one}
-use native.Mathlib.Nat.{add-zero}
 use native.Mathlib.Omega.{arith}
 use lib.Dec.{eqb}
 use lib.ListN.{length, getD, drop, drop-of-length-le}
@@ -35,7 +34,8 @@ module _ (v : ℕ) (order : List ℕ) (k found : ℕ) (inv : Counted v order k f
 module _ (n : ℕ) (order : List ℕ) (v : ℕ) (inv : eachOnce v order ≡ eachOnce n order) where
   split : 0 < v → eachOnce n order ≡ (eqb (times v order) 1 && eachOnce (v - 1) order)
   unfolding eachOnce
-  split h = let e : v ≡ suc (v - 1) = omega arith in sym inv ∙ ap (λ (m : ℕ). eachOnce m order) e ∙ ap (λ (m : ℕ). eqb (times m order) 1 && eachOnce (v - 1) order) (sym e)
+  split h = let e : v ≡ suc (v - 1) = omega arith in sym inv ∙ ap (λ (m : ℕ). eachOnce m order) e
+      ∙ ap (λ (m : ℕ). eqb (times m order) 1 && eachOnce (v - 1) order) (sym e)
 
   pub once : 0 < v → (t : ℕ) → t ≡ times v order → t ≡ 1 → eachOnce (v - 1) order ≡ eachOnce n order
   once h t e o = sym (split h ∙ ap (λ (b : Bool). b && eachOnce (v - 1) order) (eq-eqb (times v order) 1 (sym e ∙ o)))

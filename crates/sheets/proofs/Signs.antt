@@ -1,5 +1,5 @@
 -- A 32-bit word as a signed number.
-use mathlib.Core.Path.{_≡_, refl, sym, ap, _∙_}
+use mathlib.Core.Path.{_≡_, refl, sym, _∙_}
 use mathlib.Core.Bool.{Bool, true, false, not, cond}
 use Prim.Native.Nat.{ℕ, suc, _+_, _-_, _%_, _≤_, _<_, _^_}
 use native.Mathlib.Nat.{pos-of-ne-zero}

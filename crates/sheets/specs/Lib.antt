@@ -2,3 +2,4 @@
 pub mod Numbers
 pub mod Form
 pub mod Open
+pub mod Barred

@@ -9,9 +9,9 @@ ghost use Rattle.rules.specs.Sheets.{maxNumbers, wellFormed};
 ghost use Rattle.rules.specs.Calls.{noneLeftOver};
 ghost use Rattle.sheets.specs.Numbers.{numbersOf};
 ghost use Rattle.sheets.specs.Form.{empty, after, isGood};
-
 use crate::literal::variable;
-use crate::numbers::{number_at, word_at};
+use crate::numbers::number_at;
+use crate::numbers::word_at;
 use rules::Sheet;
 
 // Of the numbers read: the clauses, whether the last closed one, and whether all lie in -n..n.
@@ -41,9 +41,17 @@ impl Form {
         let clauses = self.clauses;
         let reach = self.reach && variable(w).0 <= n;
         if w == 0 {
-            Form { clauses: clauses + 1, closed: true, reach }
+            Form {
+                clauses: clauses + 1,
+                closed: true,
+                reach,
+            }
         } else {
-            Form { clauses, closed: false, reach }
+            Form {
+                clauses,
+                closed: false,
+                reach,
+            }
         }
     }
 
@@ -59,13 +67,12 @@ impl Form {
 pub fn well_formed(n: u32, sheet: &[i32]) -> bool
     ensures { λ r. ⌜ r ≡ wellFormed n (now (sheet .entry)) ⌝ }
 {
-    let count = sheet.len();
-    if count > Sheet::MAX_NUMBERS {
+    if sheet.len() > Sheet::MAX_NUMBERS {
         return false;
     }
     let mut form = Form::empty();
     let mut k = 0;
-    while k < count {
+    while k < sheet.len() {
         form = form.after(n, number_at(sheet, k));
         k += 1;
     }

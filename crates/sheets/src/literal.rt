@@ -6,8 +6,8 @@ ghost use mir.Syntax.{w32};
 ghost use mir.Val.{toZ};
 ghost use Rattle.rules.specs.Words.{maxInputs, isOne};
 ghost use Rattle.rules.specs.Sheets.{variable, positive, isTrue};
-
-use rules::{Setting, Var};
+use rules::Setting;
+use rules::Var;
 
 // The variable of the literal whose bits are w.
 pub fn variable(w: u32) -> Var

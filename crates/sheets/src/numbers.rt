@@ -7,9 +7,9 @@ ghost use mir.Syntax.{w32};
 ghost use mir.Val.{toZ};
 ghost use Rattle.rules.specs.Calls.{wordsOf};
 ghost use Rattle.sheets.specs.Numbers.{wordFrom};
-
 use crate::literal::bits_of;
 
+// A byte as a word, with its range.
 fn wide(b: u8) -> u32
     ensures { λ r. ⌜ (r ≡ b) × (r < 256) ⌝ }
 {

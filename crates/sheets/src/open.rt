@@ -9,10 +9,12 @@ ghost use Rattle.rules.specs.Words.{maxInputs};
 ghost use Rattle.rules.specs.Sheets.{variable, inReach, everyClause};
 ghost use Rattle.sheets.specs.Numbers.{numbersOf};
 ghost use Rattle.sheets.specs.Open.{isOpen};
-
-use crate::literal::{is_one, is_true, variable};
+use crate::literal::is_one;
+use crate::literal::is_true;
+use crate::literal::variable;
 use crate::numbers::word_at;
-use rules::{Row, Setting};
+use rules::Row;
+use rules::Setting;
 
 // The row does not fix the variable of the literal, whose bits are w, against it.
 fn open_literal(w: u32, row: Row) -> bool

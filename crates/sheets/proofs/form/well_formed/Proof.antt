@@ -1,59 +1,44 @@
 use Prim.Native.Nat.{_-_}
+use lib.ListN.{length}
 use borrow.Author.Needs.{needs}
 use Rattle.sheets.proofs.Forms.{Reading, start, turn, verdict, too-long}
 use Rattle.sheets.proofs.form.well_formed.Statement.{statement}
 use Rattle.sheets.proofs.form.well_formed.Tie as tie
-use Rattle.sheets.proofs.form.well_formed.Reads as reads
-use Rattle.sheets.proofs.form.well_formed.Lts as lts
-use Rattle.sheets.proofs.form.Form.after.Reads as after-reads
-use Rattle.sheets.proofs.form.Form.empty.Reads as empty-reads
-use Rattle.sheets.proofs.form.Form.is_good.Reads as is-good-reads
-use Rattle.sheets.proofs.numbers.number_at.Reads as number-at-reads
 
 abbrev Inv-loop : tie.InvT-loop
-Inv-loop n sheet count form₀ k₀ form k = Reading n sheet k form
+Inv-loop n sheet form₀ k₀ form k = Reading n sheet k form
 
 abbrev μ-loop : tie.MeasureT-loop
-μ-loop n sheet count form₀ k₀ form k = count - k
+μ-loop n sheet form₀ k₀ form k = length sheet - k
 
--- src/form.rt:64:9
 returns : tie.Need-returns Inv-loop μ-loop
 returns c = too-long _ _ (c .if1 .taken)
 
--- src/form.rt:66:9
 empty-requires : tie.Need-empty-requires Inv-loop μ-loop
 empty-requires c κs = tt
 
--- src/form.rt:68:5
 loop-holds : tie.Need-loop-holds Inv-loop μ-loop
 loop-holds c = start _ _ _ (c .empty .ensures)
 
--- src/form.rt:69:30
 number-at-requires : tie.Need-number-at-requires Inv-loop μ-loop
 number-at-requires c κs = search needs
 
--- src/form.rt:69:9
 after-requires : tie.Need-after-requires Inv-loop μ-loop
 after-requires c κs = search needs
 
--- src/form.rt:70:9
 add-k : tie.Need-add-k Inv-loop μ-loop
 add-k c = search needs
 
--- src/form.rt:68:5
 loop-less : tie.Need-loop-less Inv-loop μ-loop
 loop-less c = search needs
 
--- src/form.rt:68:5
 loop-again : tie.Need-loop-again Inv-loop μ-loop
 loop-again c =
     turn _ _ _ _ (c .before .before .before .loop .inv) (c .before .before .loop-test .taken) _ _ (c .before .number-at .ensures) (c .after .ensures)
 
--- src/form.rt:72:5
 is-good-requires : tie.Need-is-good-requires Inv-loop μ-loop
 is-good-requires c κs = tt
 
--- src/form.rt:59:1
 returns-2 : tie.Need-returns-2 Inv-loop μ-loop
 returns-2 c = verdict _ _ _ _ (c .before .before .loop .inv) (c .before .loop-test .left) (c .before .before .before .before .if1 .left) _ (c .is-good .ensures)
 

@@ -6,12 +6,6 @@ use Rattle.sheets.proofs.Bytes.{whole, within, beyond, numbers-at}
 use Rattle.sheets.proofs.Forms.{Reading, start, turn, verdict, too-long}
 use Rattle.sheets.proofs.form.well_formed_bytes.Statement.{statement}
 use Rattle.sheets.proofs.form.well_formed_bytes.Tie as tie
-use Rattle.sheets.proofs.form.well_formed_bytes.Reads as reads
-use Rattle.sheets.proofs.form.well_formed_bytes.Lts as lts
-use Rattle.sheets.proofs.form.Form.after.Reads as after-reads
-use Rattle.sheets.proofs.form.Form.empty.Reads as empty-reads
-use Rattle.sheets.proofs.form.Form.is_good.Reads as is-good-reads
-use Rattle.sheets.proofs.numbers.word_at.Reads as word-at-reads
 
 abbrev Inv-loop : tie.InvT-loop
 Inv-loop n sheet count form₀ k₀ form k = Reading n (numbersOf sheet) k form
@@ -19,55 +13,46 @@ Inv-loop n sheet count form₀ k₀ form k = Reading n (numbersOf sheet) k form
 abbrev μ-loop : tie.MeasureT-loop
 μ-loop n sheet count form₀ k₀ form k = count - k
 
--- src/form.rt:80:9
 returns : tie.Need-returns Inv-loop μ-loop
 returns c = rw (ne-eqb _ 0 (c .if1 .taken))
 
--- src/form.rt:84:9
 returns-2 : tie.Need-returns-2 Inv-loop μ-loop
 returns-2 c =
     let bs = c .before .before .before .args .sheet .now in
     whole bs _ _ (c .before .if1 .left) (too-long _ (numbersOf bs) (within bs _ (c .if2 .taken)))
 
--- src/form.rt:86:9
 empty-requires : tie.Need-empty-requires Inv-loop μ-loop
 empty-requires c κs = tt
 
--- src/form.rt:88:5
 loop-holds : tie.Need-loop-holds Inv-loop μ-loop
 loop-holds c = start _ _ _ (c .empty .ensures)
 
--- src/form.rt:89:30
 word-at-requires : tie.Need-word-at-requires Inv-loop μ-loop
 word-at-requires c κs = search needs
 
--- src/form.rt:89:9
 after-requires : tie.Need-after-requires Inv-loop μ-loop
 after-requires c κs = search needs
 
--- src/form.rt:90:9
 add-k : tie.Need-add-k Inv-loop μ-loop
 add-k c = search needs
 
--- src/form.rt:88:5
 loop-less : tie.Need-loop-less Inv-loop μ-loop
 loop-less c = search needs
 
--- src/form.rt:88:5
 loop-again : tie.Need-loop-again Inv-loop μ-loop
 loop-again c =
-    turn _ _ _ _ (c .before .before .before .loop .inv) (within _ _ (c .before .before .loop-test .taken)) _ _ (numbers-at _ _ _ (c .before .word-at .ensures)) (c .after .ensures)
+    turn _ _ _ _ (c .before .before .before .loop .inv) (within _ _ (c .before .before .loop-test .taken)) _ _
+    (numbers-at _ _ _ (c .before .word-at .ensures)) (c .after .ensures)
 
--- src/form.rt:92:5
 is-good-requires : tie.Need-is-good-requires Inv-loop μ-loop
 is-good-requires c κs = tt
 
--- src/form.rt:76:1
 returns-3 : tie.Need-returns-3 Inv-loop μ-loop
 returns-3 c =
     let l = c .before .before .before .before in
     let bs = l .before .before .before .args .sheet .now in
-    whole bs _ _ (l .before .if1 .left) (verdict _ _ _ _ (c .before .before .loop .inv) (beyond bs _ (c .before .loop-test .left)) (beyond bs _ (l .if2 .left)) _ (c .is-good .ensures))
+    whole bs _ _ (l .before .if1 .left)
+    (verdict _ _ _ _ (c .before .before .loop .inv) (beyond bs _ (c .before .loop-test .left)) (beyond bs _ (l .if2 .left)) _ (c .is-good .ensures))
 
 pub well-formed-bytes-spec : {M : Type 1} → statement M
 well-formed-bytes-spec =

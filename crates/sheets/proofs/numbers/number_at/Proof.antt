@@ -6,23 +6,16 @@ use mir.Facts.{toZ-ofZ}
 use borrow.Author.Needs.{needs}
 use Rattle.sheets.proofs.numbers.number_at.Statement.{statement}
 use Rattle.sheets.proofs.numbers.number_at.Tie as tie
-use Rattle.sheets.proofs.numbers.number_at.Reads as reads
-use Rattle.sheets.proofs.numbers.number_at.Lts as lts
-use Rattle.sheets.proofs.literal.bits_of.Reads as bits-of-reads
 
--- src/numbers.rt:40:13
 mul-bits-of : tie.Need-mul-bits-of
 mul-bits-of c = search needs
 
--- src/numbers.rt:40:13
 shared-slice-copy-out-bits-of : tie.Need-shared-slice-copy-out-bits-of
 shared-slice-copy-out-bits-of c = search needs
 
--- src/numbers.rt:40:5
 bits-of-requires : tie.Need-bits-of-requires
 bits-of-requires c κs = search needs
 
--- src/numbers.rt:36:1
 returns : tie.Need-returns
 returns c =
     c .bits-of .ensures

@@ -4,31 +4,22 @@ use borrow.Author.Needs.{needs}
 use Rattle.sheets.proofs.Signs.{fixed-open, dashed-open}
 use Rattle.sheets.proofs.open.open_literal.Statement.{statement}
 use Rattle.sheets.proofs.open.open_literal.Tie as tie
-use Rattle.sheets.proofs.open.open_literal.Reads as reads
-use Rattle.sheets.proofs.open.open_literal.Lts as lts
-use Rattle.sheets.proofs.literal.is_one.Reads as is-one-reads
-use Rattle.sheets.proofs.literal.is_true.Reads as is-true-reads
-use Rattle.sheets.proofs.literal.variable.Reads as variable-reads
 
--- src/open.rt:24:15
 variable-requires : tie.Need-variable-requires
 variable-requires c κs = search needs
 
--- src/open.rt:24:8
 is-one-requires : tie.Need-is-one-requires
 is-one-requires c κs = search needs
 
--- src/open.rt:25:9
 is-true-requires : tie.Need-is-true-requires
 is-true-requires c κs = search needs
 
--- src/open.rt:18:1
 returns : tie.Need-returns
 returns c =
     let p = c .before .before .before in
-    fixed-open (p .before .args .row) _ (toZ w32 (p .before .args .w)) _ (p .variable .ensures) (c .before .before .is-one .ensures) (c .before .if1 .taken) _ (c .is-true .ensures)
+    fixed-open (p .before .args .row) _ (toZ w32 (p .before .args .w)) _ (p .variable .ensures) (c .before .before .is-one .ensures)
+    (c .before .if1 .taken) _ (c .is-true .ensures)
 
--- src/open.rt:18:1
 returns-2 : tie.Need-returns-2
 returns-2 c =
     let p = c .before .before in

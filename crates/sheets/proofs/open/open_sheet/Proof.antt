@@ -13,10 +13,6 @@ use Rattle.sheets.proofs.Signs.{literal-variable}
 use Rattle.sheets.proofs.Clauses.{reach-at, closed, lost, tried, kept, all-met}
 use Rattle.sheets.proofs.open.open_sheet.Statement.{statement}
 use Rattle.sheets.proofs.open.open_sheet.Tie as tie
-use Rattle.sheets.proofs.open.open_sheet.Reads as reads
-use Rattle.sheets.proofs.open.open_sheet.Lts as lts
-use Rattle.sheets.proofs.numbers.word_at.Reads as word-at-reads
-use Rattle.sheets.proofs.open.open_literal.Reads as open-literal-reads
 
 abbrev Inv-loop : tie.InvT-loop
 Inv-loop sheet row count k₀ met₀ k met =
@@ -25,15 +21,12 @@ Inv-loop sheet row count k₀ met₀ k met =
 abbrev μ-loop : tie.MeasureT-loop
 μ-loop sheet row count k₀ met₀ k met = count - k
 
--- src/open.rt:43:5
 loop-holds : tie.Need-loop-holds Inv-loop μ-loop
 loop-holds c = refl
 
--- src/open.rt:44:13
 word-at-requires : tie.Need-word-at-requires Inv-loop μ-loop
 word-at-requires c κs = search needs
 
--- src/open.rt:47:17
 returns : tie.Need-returns Inv-loop μ-loop
 returns c =
     let l = c .before .before .before .before in
@@ -41,7 +34,6 @@ returns c =
     let h = within bs _ (c .before .before .before .loop-test .taken) in
     lost _ (numbersOf bs) _ _ h (numbers-at bs _ _ (c .before .before .word-at .ensures)) _ _ (l .loop .inv) (c .before .if1 .taken) (not-true _ (c .if2 .taken))
 
--- src/open.rt:51:13
 open-literal-requires : tie.Need-open-literal-requires Inv-loop μ-loop
 open-literal-requires c κs =
     let l = c .before .before .before .before in
@@ -49,15 +41,12 @@ open-literal-requires c κs =
     let e = numbers-at bs _ _ (c .before .before .word-at .ensures) in
     (literal-variable _ (c .before .if1 .left), rw e (reach-at 24 (numbersOf bs) _ (l .before .before .pre) (within bs _ (c .before .before .before .loop-test .taken))))
 
--- src/open.rt:53:9
 add-k : tie.Need-add-k Inv-loop μ-loop
 add-k c = search needs
 
--- src/open.rt:43:5
 loop-less : tie.Need-loop-less Inv-loop μ-loop
 loop-less c = search needs
 
--- src/open.rt:43:5
 loop-again : tie.Need-loop-again Inv-loop μ-loop
 loop-again c =
     let l = c .before .before .before in
@@ -66,9 +55,8 @@ loop-again c =
     let e = numbers-at bs _ _ (c .before .word-at .ensures) in
     either (c .if1 .came) (λ w. closed _ (numbersOf bs) _ _ h e _ _ (l .loop .inv) _ (w .0 .taken) (not-false _ (w .1 .left)) (w .2))
     (λ u. either u (λ w. tried _ (numbersOf bs) _ _ h e _ _ (l .loop .inv) _ (w .0 .left) (not-true _ (w .1 .taken)) (w .3 ∙ w .2 .ensures))
-      (λ w. kept _ (numbersOf bs) _ _ h e _ _ (l .loop .inv) _ (w .0 .left) (not-false _ (w .1 .left)) (w .2)))
+    (λ w. kept _ (numbersOf bs) _ _ h e _ _ (l .loop .inv) _ (w .0 .left) (not-false _ (w .1 .left)) (w .2)))
 
--- src/open.rt:36:1
 returns-2 : tie.Need-returns-2 Inv-loop μ-loop
 returns-2 c =
     let bs = c .before .before .before .args .sheet .now in

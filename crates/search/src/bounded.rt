@@ -7,7 +7,7 @@ ghost use Rattle.rules.specs.Words.{dashes};
 ghost use Rattle.rules.specs.Search.{smallest, notBelow};
 ghost use Rattle.rules.proofs.From.{Free, smallestFrom};
 ghost use Rattle.sheets.specs.Numbers.{numbersOf};
-ghost use Rattle.search.specs.Kept.{rowsOf};
+ghost use Rattle.sheets.specs.Barred.{rowsOf};
 ghost use Rattle.search.specs.Question.{good, live, foundAs, Asked, Passed};
 
 use crate::cut::live;

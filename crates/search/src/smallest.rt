@@ -5,7 +5,7 @@ ghost use mathlib.Core.Bool.{true};
 ghost use lib.ListN.{drop};
 ghost use Rattle.rules.specs.Search.{smallest};
 ghost use Rattle.sheets.specs.Numbers.{numbersOf};
-ghost use Rattle.search.specs.Kept.{rowsOf};
+ghost use Rattle.sheets.specs.Barred.{rowsOf};
 ghost use Rattle.search.specs.Question.{good, live, foundAs, Asked, Passed};
 
 use crate::cut::live;

@@ -9,16 +9,27 @@ ghost use Rattle.rules.proofs.From.{Free, smallestFrom};
 ghost use Rattle.sheets.specs.Numbers.{numbersOf};
 ghost use Rattle.sheets.specs.Barred.{rowsOf};
 ghost use Rattle.search.specs.Question.{good, live, foundAs, Asked, Passed};
-
+use crate::Found;
 use crate::cut::live;
 use crate::smallest::search;
-use crate::step::{at_one, at_zero, var_at};
-use crate::Found;
-use rules::{Place, Row, Setting};
+use crate::step::at_one;
+use crate::step::at_zero;
+use crate::step::var_at;
+use rules::Place;
+use rules::Row;
+use rules::Setting;
 use sheets::is_one;
 
 // The smallest good setting, not below the start from the place on, of a live row that fixes the variables before the place alone.
-pub fn search_from(order: &&[u32], place: Place, row: Row, start: Setting, a: &&[u8], b: &&[u8], rows: &&[u32]) -> Found
+pub fn search_from(
+    order: &&[u32],
+    place: Place,
+    row: Row,
+    start: Setting,
+    a: &&[u8],
+    b: &&[u8],
+    rows: &&[u32],
+) -> Found
     requires { ⌜ Asked (now (now order)) (numbersOf (now (now a))) (numbersOf (now (now b))) (rowsOf (now (now rows))) ⌝ }
     requires { ⌜ Passed (now (now order)) (place .0) row ⌝ }
     requires { ⌜ Free (drop (place .0) (now (now order))) row ⌝ }
@@ -34,6 +45,7 @@ pub fn search_from(order: &&[u32], place: Place, row: Row, start: Setting, a: &&
     }
     let v = var_at(o, place);
     let next = at + 1;
+    let low = at_zero(row, v);
     let high = at_one(row, v);
     if is_one(v, from) {
         if live(a, b, rows, high) {
@@ -41,7 +53,6 @@ pub fn search_from(order: &&[u32], place: Place, row: Row, start: Setting, a: &&
         }
         return Found::Nothing;
     }
-    let low = at_zero(row, v);
     if live(a, b, rows, low) {
         let f = search_from(order, Place(next), low, start, a, b, rows);
         if let Found::At(s) = f {

@@ -8,11 +8,16 @@ ghost use Rattle.rules.specs.Search.{smallest, notBelow};
 ghost use Rattle.rules.specs.Answers.{queryReply, replyOf};
 ghost use Rattle.rules.specs.Calls.{lent, listed, query};
 ghost use Rattle.search.specs.Question.{foundAs};
-
-use crate::bounded::find_from;
 use crate::Found;
-use rules::{QueryAnswer, Refusal, Row, Setting, Sheet};
-use sheets::{bar, is_order, well_formed};
+use crate::bounded::find_from;
+use rules::QueryAnswer;
+use rules::Refusal;
+use rules::Row;
+use rules::Setting;
+use rules::Sheet;
+use sheets::bar;
+use sheets::is_order;
+use sheets::well_formed;
 
 // n is a number of inputs.
 pub fn is_inputs(n: u32) -> bool

@@ -6,7 +6,6 @@ ghost use Rattle.rules.specs.Sheets.{inReach};
 ghost use Rattle.sheets.specs.Numbers.{numbersOf};
 ghost use Rattle.sheets.specs.Barred.{rowsOf};
 ghost use Rattle.search.specs.Question.{coversSome, live};
-
 use rules::Row;
 use sheets::open_sheet;
 

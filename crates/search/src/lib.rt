@@ -5,13 +5,12 @@ mod cut;
 mod smallest;
 mod step;
 
-use rules::Setting;
-
-pub use calls::is_inputs;
-pub use calls::fits;
-pub use calls::query;
-pub use smallest::find;
 pub use bounded::find_from;
+pub use calls::fits;
+pub use calls::is_inputs;
+pub use calls::query;
+use rules::Setting;
+pub use smallest::find;
 
 pub enum Found {
     At(Setting),

@@ -7,11 +7,14 @@ ghost use Rattle.rules.specs.Search.{smallest};
 ghost use Rattle.sheets.specs.Numbers.{numbersOf};
 ghost use Rattle.sheets.specs.Barred.{rowsOf};
 ghost use Rattle.search.specs.Question.{good, live, foundAs, Asked, Passed};
-
-use crate::cut::live;
-use crate::step::{at_one, at_zero, var_at};
 use crate::Found;
-use rules::{Place, Row, Setting};
+use crate::cut::live;
+use crate::step::at_one;
+use crate::step::at_zero;
+use crate::step::var_at;
+use rules::Place;
+use rules::Row;
+use rules::Setting;
 use sheets::is_one;
 
 // The smallest good setting of a live row that fixes every variable before the place.
@@ -34,13 +37,13 @@ pub fn search(order: &&[u32], place: Place, row: Row, a: &&[u8], b: &&[u8], rows
         return search(order, Place(next), row, a, b, rows);
     }
     let low = at_zero(row, v);
+    let high = at_one(row, v);
     if live(a, b, rows, low) {
         let f = search(order, Place(next), low, a, b, rows);
         if let Found::At(s) = f {
             return Found::At(s);
         }
     }
-    let high = at_one(row, v);
     if live(a, b, rows, high) {
         return search(order, Place(next), high, a, b, rows);
     }

@@ -1,0 +1,2 @@
+-- What a search is asked, and what it answers.
+pub mod Question

@@ -7,7 +7,6 @@ use lib.ListN.{length, drop}
 use Rattle.rules.specs.Words.{one}
 use Rattle.rules.specs.Search.{found}
 use Rattle.rules.specs.declared.Refusal.{Refusal}
-use Rattle.rules.specs.declared.Refusal.the-variants.{Inputs, Order, OnSheet, OffSheet, Asked, Collision, TooManyRows, GivenList, GivenSetting, LongText, Header, Token, Clauses, OtherInputs, Room}
 use Rattle.rules.specs.declared.ListAnswer.{ListAnswer}
 use Rattle.rules.specs.declared.PartialAnswer.{PartialAnswer}
 use Rattle.rules.specs.declared.QueryAnswer.{QueryAnswer}
@@ -15,13 +14,6 @@ use Rattle.rules.specs.declared.PruneAnswer.{PruneAnswer}
 use Rattle.rules.specs.declared.ValueAnswer.{ValueAnswer}
 use Rattle.rules.specs.declared.ReadAnswer.{ReadAnswer}
 use Rattle.rules.specs.declared.WriteAnswer.{WriteAnswer}
-use Rattle.rules.specs.declared.ListAnswer.the-variants as whole
-use Rattle.rules.specs.declared.PartialAnswer.the-variants as part
-use Rattle.rules.specs.declared.QueryAnswer.the-variants as query
-use Rattle.rules.specs.declared.PruneAnswer.the-variants as prune
-use Rattle.rules.specs.declared.ValueAnswer.the-variants as value
-use Rattle.rules.specs.declared.ReadAnswer.the-variants as read
-use Rattle.rules.specs.declared.WriteAnswer.the-variants as write
 
 -- number: 0 for a result, else the refusal's. values: those of the result, and for refusal 6 the setting.
 pub record Reply : Type 0 where
@@ -35,50 +27,50 @@ abbrev pub refusal : ℕ → Reply
 refusal k = record { number = k; values = [] }
 
 abbrev pub refusalReply : Refusal → Reply
-refusalReply Inputs = refusal 1
-refusalReply Order = refusal 2
-refusalReply OnSheet = refusal 3
-refusalReply OffSheet = refusal 4
-refusalReply Asked = refusal 5
-refusalReply (Collision s) = record { number = 6; values = s .0 ∷ [] }
-refusalReply TooManyRows = refusal 7
-refusalReply GivenList = refusal 8
-refusalReply GivenSetting = refusal 9
-refusalReply LongText = refusal 10
-refusalReply Header = refusal 11
-refusalReply Token = refusal 12
-refusalReply Clauses = refusal 13
-refusalReply OtherInputs = refusal 14
-refusalReply Room = refusal 15
+refusalReply Refusal.Inputs = refusal 1
+refusalReply Refusal.Order = refusal 2
+refusalReply Refusal.OnSheet = refusal 3
+refusalReply Refusal.OffSheet = refusal 4
+refusalReply Refusal.Asked = refusal 5
+refusalReply (Refusal.Collision s) = record { number = 6; values = s .0 ∷ [] }
+refusalReply Refusal.TooManyRows = refusal 7
+refusalReply Refusal.GivenList = refusal 8
+refusalReply Refusal.GivenSetting = refusal 9
+refusalReply Refusal.LongText = refusal 10
+refusalReply Refusal.Header = refusal 11
+refusalReply Refusal.Token = refusal 12
+refusalReply Refusal.Clauses = refusal 13
+refusalReply Refusal.OtherInputs = refusal 14
+refusalReply Refusal.Room = refusal 15
 
 abbrev pub listReply : ListAnswer → Reply
-listReply (whole.Rows count) = answered (count ∷ [])
-listReply (whole.Refused f) = refusalReply f
+listReply (ListAnswer.Rows count) = answered (count ∷ [])
+listReply (ListAnswer.Refused f) = refusalReply f
 
 abbrev pub partialReply : PartialAnswer → Reply
-partialReply (part.Rows count complete) = answered (count ∷ one complete ∷ [])
-partialReply (part.Refused f) = refusalReply f
+partialReply (PartialAnswer.Rows count complete) = answered (count ∷ one complete ∷ [])
+partialReply (PartialAnswer.Refused f) = refusalReply f
 
 abbrev pub queryReply : QueryAnswer → Reply
-queryReply (query.Found s) = answered (s .0 ∷ [])
-queryReply query.Nothing = answered []
-queryReply (query.Refused f) = refusalReply f
+queryReply (QueryAnswer.Found s) = answered (s .0 ∷ [])
+queryReply QueryAnswer.Nothing = answered []
+queryReply (QueryAnswer.Refused f) = refusalReply f
 
 abbrev pub pruneReply : PruneAnswer → Reply
-pruneReply (prune.Kept count) = answered (count ∷ [])
-pruneReply (prune.Refused f) = refusalReply f
+pruneReply (PruneAnswer.Kept count) = answered (count ∷ [])
+pruneReply (PruneAnswer.Refused f) = refusalReply f
 
 abbrev pub valueReply : ValueAnswer → Reply
-valueReply (value.Value b) = answered (one b ∷ [])
-valueReply (value.Refused f) = refusalReply f
+valueReply (ValueAnswer.Value b) = answered (one b ∷ [])
+valueReply (ValueAnswer.Refused f) = refusalReply f
 
 abbrev pub readReply : ReadAnswer → Reply
-readReply (read.Sheet inputs count) = answered (inputs ∷ count ∷ [])
-readReply (read.Refused f) = refusalReply f
+readReply (ReadAnswer.Sheet inputs count) = answered (inputs ∷ count ∷ [])
+readReply (ReadAnswer.Refused f) = refusalReply f
 
 abbrev pub writeReply : WriteAnswer → Reply
-writeReply (write.Length count) = answered (count ∷ [])
-writeReply (write.Refused f) = refusalReply f
+writeReply (WriteAnswer.Length count) = answered (count ∷ [])
+writeReply (WriteAnswer.Refused f) = refusalReply f
 
 -- A refusal, and whether its condition holds.
 pub record Check : Type 0 where

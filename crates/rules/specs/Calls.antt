@@ -178,14 +178,23 @@ kept (stays ∷ more) = one stays + kept more
 abbrev pub readValues : Read → List ℕ
 readValues r = r .inputs ∷ length (r .numbers) ∷ []
 
--- What list building leaves in the two runs, as words and as bytes.
+-- What list building leaves in its two runs, and their room: the shorter length.
 abbrev pub cares : List Row → List ℕ
 cares rows = map (λ r. r .care) rows
 
 abbrev pub values : List Row → List ℕ
 values rows = map (λ r. r .value) rows
 
--- The C host's answer: the refusal's number times 2 ^ 32, and the first value.
+abbrev pub roomIn : List ℕ → List ℕ → ℕ
+roomIn care value = min (length care) (length value)
+
+-- The C host lends bytes, and is answered the refusal's number times 2 ^ 32 plus the first value.
+abbrev pub hostWhole : ℕ → List ℕ → List ℕ → List ℕ → List ℕ → List ℕ → Verdict (List Row)
+hostWhole n order on off care value = whole n (lentWords order) (lentNumbers on) (lentNumbers off) (roomIn (wordsOf care) (wordsOf value))
+
+abbrev pub hostWrite : ℕ → ℕ → List ℕ → List ℕ → ℕ → Verdict (List ℕ)
+hostWrite n count care value room = write n count (rowsIn (wordsOf care) (wordsOf value)) room
+
 abbrev pub first : List ℕ → ℕ
 first [] = 0
 first (v ∷ vs) = v

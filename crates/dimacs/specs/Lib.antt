@@ -1,0 +1,3 @@
+-- What this crate's own types say, in the words of the rules.
+pub mod Kinds
+pub mod Parts

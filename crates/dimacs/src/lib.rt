@@ -1,0 +1,8 @@
+// DIMACS CNF texts: a token at a time, and the sheet of a whole text.
+mod decimal;
+mod scan;
+mod token;
+
+pub use token::Step;
+pub use token::Token;
+pub use token::next_token;

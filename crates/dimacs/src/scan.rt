@@ -1,0 +1,60 @@
+// Bytes of a kind. A position in the text is a number of bytes passed.
+ghost use mathlib.Core.Path.{_≡_};
+ghost use Prim.Native.Nat.{_≤_};
+ghost use lib.ListN.{length, drop};
+ghost use Rattle.rules.specs.Dimacs.{isDigit, isGap, isBlank, notBlank, afterAll};
+ghost use Rattle.dimacs.specs.Kinds.{ofKind};
+
+pub enum Kind {
+    Space,
+    Gap,
+    Blank,
+    Mark,
+    Digit,
+}
+
+pub fn is_digit(b: u8) -> bool
+    ensures { λ r. ⌜ r ≡ isDigit b ⌝ }
+{
+    (48 <= b) & (b <= 57)
+}
+
+pub fn is_gap(b: u8) -> bool
+    ensures { λ r. ⌜ r ≡ isGap b ⌝ }
+{
+    (b == 32) | (b == 9)
+}
+
+pub fn is_blank(b: u8) -> bool
+    ensures { λ r. ⌜ r ≡ isBlank b ⌝ }
+{
+    ((b == 32) | (b == 9)) | ((b == 13) | (b == 10))
+}
+
+pub fn of_kind(kind: Kind, b: u8) -> bool
+    ensures { λ r. ⌜ r ≡ ofKind kind b ⌝ }
+{
+    match kind {
+        Kind::Space => 32 == b,
+        Kind::Gap => is_gap(b),
+        Kind::Blank => is_blank(b),
+        Kind::Mark => !is_blank(b),
+        Kind::Digit => is_digit(b),
+    }
+}
+
+// The position behind all bytes of the kind.
+pub fn after_all(kind: Kind, text: &[u8], at: usize) -> usize
+    ensures left { λ r. ⌜ drop r (now (text .entry)) ≡ afterAll (ofKind kind) (drop at (now (text .entry))) ⌝ }
+    ensures low { λ r. ⌜ at ≤ r ⌝ }
+    ensures high { λ r. ⌜ (at ≤ length (now (text .entry)) → r ≤ length (now (text .entry))) ⌝ }
+{
+    let mut i = at;
+    while i < text.len() {
+        if !of_kind(kind, text[i]) {
+            return i;
+        }
+        i += 1;
+    }
+    i
+}

@@ -1,5 +1,8 @@
 -- Laws behind the functions, by subject.
 pub mod Passing
+pub mod Bytes
+pub mod Comments
+pub mod Headings
 pub mod Decimals
 pub mod TokenKinds
 pub mod Signs

@@ -1,13 +1,15 @@
 -- Bytes of a kind, by position.
 use mathlib.Core.Path.{_≡_, refl, ap, sym, _∙_}
 use mathlib.Core.Bool.{Bool, true, false}
-use mathlib.Core.List.{List, [], _∷_}
-use Prim.Native.Nat.{ℕ, suc, _+_, _<_, _≤_}
+use mathlib.Core.List.{List, [], _∷_, _++_}
+use Prim.Native.Nat.{ℕ, _+_, _-_, _<_, _≤_}
 use native.Mathlib.Numerals.{add-one}
-use lib.ListN.{length, drop, getD, drop-of-length-le}
-use lib.Seq.{drop-cons}
-use Rattle.rules.specs.Dimacs.{afterAll}
+use native.Mathlib.Omega.{arith}
+use lib.ListN.{length, take, drop, getD, length-append, length-drop, drop-of-length-le}
+use lib.Seq.{drop-cons, take-at}
+use Rattle.rules.specs.Dimacs.{front, afterAll}
 use Rattle.rules.proofs.Tokens.{after-more, after-end}
+use Rattle.rules.proofs.Logic.{test}
 
 -- the byte at a position, and what follows it
 pub byte-at : (text : List ℕ) (i : ℕ) → i < length text → drop i text ≡ getD text i 0 ∷ drop (i + 1) text
@@ -24,3 +26,20 @@ module _ (kind : ℕ → Bool) (text : List ℕ) where
   pub stop-end : (i : ℕ) → length text ≤ i → afterAll kind (drop i text) ≡ drop i text
   unfolding afterAll
   stop-end i l = rw (drop-of-length-le text l)
+
+-- the bytes of a kind at the front, and the others, make the text
+front-after : (kind : ℕ → Bool) (t : List ℕ) → front kind t ++ afterAll kind t ≡ t
+unfolding front afterAll
+front-after kind [] = refl
+front-after kind (b ∷ t) = test (kind b) (λ p. rw p (ap (λ u. b ∷ u) (front-after kind t))) λ p. rw p
+
+front-take : (kind : ℕ → Bool) (t : List ℕ) (n : ℕ) → n + length (afterAll kind t) ≡ length t → take n t ≡ front kind t
+front-take kind t n e =
+    let parts = front-after kind t in
+    let size = length-append (front kind t) (afterAll kind t) in
+    ap (take n) (sym parts) ∙ take-at (front kind t) (afterAll kind t) n (omega (arith, ap length parts))
+
+pub front-part : (kind : ℕ → Bool) (text : List ℕ) (from to : ℕ) → drop to text ≡ afterAll kind (drop from text) → from ≤ to → to ≤ length text
+    → take (to - from) (drop from text) ≡ front kind (drop from text)
+front-part kind text from to rest order high =
+    front-take kind (drop from text) (to - from) (rw (← rest) (omega (arith, length-drop to text, length-drop from text)))

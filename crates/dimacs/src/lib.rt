@@ -1,5 +1,6 @@
 // DIMACS CNF texts: a token at a time, and the sheet of a whole text.
 mod decimal;
+mod header;
 mod scan;
 mod token;
 

@@ -2,8 +2,9 @@
 ghost use mathlib.Core.Path.{_≡_};
 ghost use Prim.Native.Nat.{_≤_};
 ghost use lib.ListN.{length, drop};
-ghost use Rattle.rules.specs.Dimacs.{isDigit, isGap, isBlank, notBlank, afterAll};
+ghost use Rattle.rules.specs.Dimacs.{isDigit, isGap, isBlank, afterAll, afterBytes, afterSpaces};
 ghost use Rattle.dimacs.specs.Kinds.{ofKind};
+ghost use Rattle.dimacs.specs.Rests.{restOf, InText};
 
 pub enum Kind {
     Space,
@@ -57,4 +58,43 @@ pub fn after_all(kind: Kind, text: &[u8], at: usize) -> usize
         i += 1;
     }
     i
+}
+
+// Where the rest of a text begins, or that the text is not in form.
+pub enum Rest {
+    At(usize),
+    Missing,
+}
+
+// The rest behind these very bytes.
+pub fn after_bytes(word: &[u8], text: &[u8], at: usize) -> Rest
+    requires { ⌜ at ≤ length (now text) ⌝ }
+    ensures left { λ r. ⌜ restOf (now (text .entry)) r ≡ afterBytes (now (word .entry)) (drop at (now (text .entry))) ⌝ }
+    ensures high { λ r. ⌜ InText (now (text .entry)) r ⌝ }
+{
+    let mut i = 0;
+    let mut k = at;
+    while i < word.len() {
+        if text.len() <= k {
+            return Rest::Missing;
+        }
+        if word[i] != text[k] {
+            return Rest::Missing;
+        }
+        i += 1;
+        k += 1;
+    }
+    Rest::At(k)
+}
+
+// The rest behind one or more spaces.
+pub fn after_spaces(text: &[u8], at: usize) -> Rest
+    requires { ⌜ at ≤ length (now text) ⌝ }
+    ensures left { λ r. ⌜ restOf (now (text .entry)) r ≡ afterSpaces (drop at (now (text .entry))) ⌝ }
+    ensures high { λ r. ⌜ InText (now (text .entry)) r ⌝ }
+{
+    match after_bytes(b" ", text, at) {
+        Rest::At(i) => Rest::At(after_all(Kind::Space, text, i)),
+        Rest::Missing => Rest::Missing,
+    }
 }

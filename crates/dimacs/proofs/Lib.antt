@@ -7,3 +7,5 @@ pub mod Decimals
 pub mod TokenKinds
 pub mod Signs
 pub mod Steps
+pub mod Following
+pub mod Tallies

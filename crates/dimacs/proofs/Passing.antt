@@ -28,7 +28,7 @@ module _ (kind : ℕ → Bool) (text : List ℕ) where
   stop-end i l = rw (drop-of-length-le text l)
 
 -- the bytes of a kind at the front, and the others, make the text
-front-after : (kind : ℕ → Bool) (t : List ℕ) → front kind t ++ afterAll kind t ≡ t
+pub front-after : (kind : ℕ → Bool) (t : List ℕ) → front kind t ++ afterAll kind t ≡ t
 unfolding front afterAll
 front-after kind [] = refl
 front-after kind (b ∷ t) = test (kind b) (λ p. rw p (ap (λ u. b ∷ u) (front-after kind t))) λ p. rw p

@@ -1,19 +1,20 @@
 -- The token of a part, by its beginning and its decimal.
-use mathlib.Core.Path.{_≡_, refl, ap, sym, _∙_}
+use mathlib.Core.Path.{_≡_, refl, ap, sym, _∙_, subst}
 use mathlib.Core.Bool.{true, false}
 use mathlib.Core.List.{List, [], _∷_}
 use mathlib.Core.Option.{Option, none, some}
 use Prim.Native.Nat.{ℕ, _-_, _≤_}
 use native.Mathlib.Omega.{arith}
-use lib.IntN.{pos, negsuc}
+use lib.Dec.{eqb}
+use lib.IntN.{ℤ, pos, negsuc, natAbs}
 use lib.ListN.{length, take, drop, length-drop}
 use lib.Seq.{take-all}
-use Rattle.rules.specs.Dimacs.{number, ends, other, signed, tokenOf}
-use Rattle.rules.proofs.Logic.{clash}
+use Rattle.rules.specs.Dimacs.{_>>=_, decimal, within, Token, number, ends, other, signed, tokenOf}
+use Rattle.rules.proofs.Logic.{test, option, clash}
 use Rattle.dimacs.specs.declared.decimal.Decimal.{Decimal}
 use Rattle.dimacs.specs.declared.decimal.Decimal.the-variants.{Number, Missing}
 use Rattle.dimacs.specs.Parts.{isByte, beginsLonger, decimalWithin, decimalOf}
-use Rattle.dimacs.proofs.Decimals.{decimal-bounds}
+use Rattle.dimacs.proofs.Decimals.{within-bounds, decimal-bounds}
 
 -- all behind the first byte
 abbrev pub tail : List ℕ → List ℕ
@@ -63,3 +64,26 @@ module _ (v : ℕ) where
 
     pub no-positive : d ≡ Missing → other ≡ tokenOf v t
     no-positive f = ap (signed pos) (sym (ap decimalOf f) ∙ e) ∙ plain t p q
+
+-- a token's number is at most v
+abbrev pub Bounded : ℕ → Token → Type 0
+Bounded v (number z) = natAbs z ≤ v
+Bounded v ends = Unit {0}
+Bounded v other = Unit {0}
+
+signed-bounded : (v low : ℕ) (sign : ℕ → ℤ) → ((m : ℕ) → low ≤ m → natAbs (sign m) ≡ m) → (o : Option ℕ) → Bounded v (signed sign (o >>= within low v))
+signed-bounded v low sign same o =
+    option (o >>= within low v) (λ e. rw e tt) λ m e.
+    let (l, h) = within-bounds low v o e in rw e (subst (λ k. k ≤ v) (sym (same m l)) h)
+
+positive-bounded : (v : ℕ) (o : Option ℕ) → Bounded v (signed pos (o >>= within 0 v))
+positive-bounded v o = signed-bounded v 0 pos (λ m l. refl) o
+
+negative-bounded : (v : ℕ) (o : Option ℕ) → Bounded v (signed (λ m. negsuc (m - 1)) (o >>= within 1 v))
+negative-bounded v o = signed-bounded v 1 (λ m. negsuc (m - 1)) (λ m l. omega arith) o
+
+pub token-bounded : (v : ℕ) (t : List ℕ) → Bounded v (tokenOf v t)
+token-bounded v [] = tt
+token-bounded v (b ∷ []) = test (eqb b 37) (λ p. rw p tt) λ p. rw p (positive-bounded v (decimal (b ∷ [])))
+token-bounded v (b ∷ c ∷ t) =
+    test (eqb b 45) (λ p. rw p (negative-bounded v (decimal (c ∷ t)))) λ p. rw p (positive-bounded v (decimal (b ∷ c ∷ t)))

@@ -3,3 +3,4 @@ pub mod Kinds
 pub mod Parts
 pub mod Rests
 pub mod Heads
+pub mod Bodies

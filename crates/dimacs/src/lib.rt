@@ -1,4 +1,5 @@
 // DIMACS CNF texts: a token at a time, and the sheet of a whole text.
+mod body;
 mod decimal;
 mod header;
 mod scan;

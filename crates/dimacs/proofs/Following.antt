@@ -17,6 +17,7 @@ use Rattle.dimacs.specs.declared.token.Token as answer
 use Rattle.dimacs.specs.declared.token.Token.the-variants as kinds
 use Rattle.dimacs.specs.declared.token.Step as answers
 use Rattle.dimacs.specs.declared.token.Step.the-variants as steps
+use Rattle.dimacs.specs.declared.body.Next.{Next}
 use Rattle.dimacs.specs.declared.body.Next.the-variants.{Number}
 use Rattle.dimacs.specs.Parts.{tokenIs, stepIs}
 use Rattle.dimacs.specs.Bodies.{numbersFrom, prepend, Follows}
@@ -138,3 +139,7 @@ module _ (v : ℕ) (text : List ℕ) (at : ℕ) (s : answers.Step) (e : stepIs s
 
   pub number-bounded : {t : answer.Token} {place : ℕ} {z : ℤ} → s ≡ steps.Token t place → t ≡ kinds.Number z → natAbs z ≤ v
   number-bounded f g = let h = stepped f in subst (Bounded v) (h .token ∙ ap tokenIs g) (token-bounded v (h .word))
+
+-- the next number leads on within the text
+pub next-place : (v : ℕ) (text : List ℕ) (at : ℕ) (r : Next) {z : ℤ} {place : ℕ} → Follows v text at r → r ≡ Number z place → (at < place) × (place ≤ length text)
+next-place v text at r h f = subst (Follows v text at) f h .1

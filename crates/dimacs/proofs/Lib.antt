@@ -9,3 +9,4 @@ pub mod Signs
 pub mod Steps
 pub mod Following
 pub mod Tallies
+pub mod Writing

@@ -74,9 +74,6 @@ module _ (v : ℕ) (text : List ℕ) (at : ℕ) (t : Tally) (r : Next) (h : Foll
       ap (judged t) (subst (Follows v text at) f h .0) ∙ judged-number t z (numbersFrom v text place)
       ∙ ap (λ x. judged x (numbersFrom v text place)) (ap (λ x. counted x t) (sym same) ∙ sym e)
 
-  pub at-place : {z : ℤ} {place : ℕ} → r ≡ Number z place → (at < place) × (place ≤ length text)
-  at-place f = subst (Follows v text at) f h .1
-
 -- of all the numbers: their count, the clauses closed, and whether the last number closes one
 after-all : (t : Tally) (zs : List ℤ) → countedAll t zs ≡ tally (t .numbers + length zs) (t .zeros + clauses zs) (endsClosed (t .closed) zs)
 unfolding counted countedAll clauses endsClosed

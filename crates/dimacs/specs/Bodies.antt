@@ -1,7 +1,7 @@
 -- The numbers of a body from a position on, and what is counted of them.
 use mathlib.Core.Path.{_≡_}
 use mathlib.Core.Bool.{true}
-use mathlib.Core.List.{List, [], _∷_}
+use mathlib.Core.List.{List, [], _∷_, _++_}
 use mathlib.Core.Option.{Option, none, some, Option·getD}
 use Prim.Native.Nat.{ℕ, _+_, _≤_, _<_}
 use lib.IntN.{ℤ}
@@ -46,3 +46,14 @@ judged t later = later >>= λ zs. some (countedAll t zs)
 abbrev pub bodyIs : Body → Option Tally
 bodyIs (body.Sheet t) = some t
 bodyIs body.Bad = none
+
+-- numbers read before the others; the numbers of a body in form; and that they fit into so many cells
+unfoldable pub prependAll : List ℤ → Option (List ℤ) → Option (List ℤ)
+prependAll seen later = later >>= λ zs. some (seen ++ zs)
+
+abbrev pub sheetOf : Option (List ℤ) → List ℤ
+sheetOf body = Option·getD body []
+
+abbrev pub HasRoom : Option (List ℤ) → ℕ → Type 0
+HasRoom none room = ⊥
+HasRoom (some zs) room = length zs ≤ room

@@ -1,14 +1,13 @@
 // The body, twice over: once to judge and count all of its numbers, and once to write them. Nothing is written before
 // all is judged.
 ghost use mathlib.Core.Path.{_≡_};
-ghost use mathlib.Core.Bool.{false};
 ghost use Prim.Native.Nat.{_≤_, _<_};
 ghost use lib.IntN.{natAbs};
 ghost use lib.ListN.{length};
 ghost use Rattle.rules.specs.Words.{maxInputs};
 ghost use Rattle.rules.specs.Dimacs.{maxBytes};
 ghost use Rattle.rules.specs.Answers.{over};
-ghost use Rattle.dimacs.specs.Bodies.{Follows, nothing, counted, bodyIs, judged, numbersFrom};
+ghost use Rattle.dimacs.specs.Bodies.{Follows, nothing, counted, bodyIs, judged, numbersFrom, sheetOf, HasRoom};
 
 use crate::token::{Step, Token, next_token};
 
@@ -101,6 +100,27 @@ pub fn judge(v: u32, text: &[u8], start: usize) -> Body
             Next::Bad => return Body::Bad,
             Next::Number(z, next) => {
                 tally = tally.counted(z);
+                at = next;
+            }
+        }
+    }
+}
+
+// The numbers are written over the first cells. Their room has been judged.
+pub fn write(v: u32, text: &[u8], start: usize, numbers: &mut [i32])
+    requires { ⌜ v ≤ maxInputs ⌝ }
+    requires { ⌜ HasRoom (numbersFrom v (now text) start) (length (now numbers)) ⌝ }
+    ensures { λ r. ⌜ now (numbers .exit) ≡ over (sheetOf (numbersFrom v (now (text .entry)) start)) (now (numbers .entry)) ⌝ }
+{
+    let mut at = start;
+    let mut i = 0;
+    loop {
+        match next_number(v, text, at) {
+            Next::End => return,
+            Next::Bad => return,
+            Next::Number(z, next) => {
+                numbers[i] = z;
+                i += 1;
                 at = next;
             }
         }

@@ -6,7 +6,8 @@ use mir.Syntax.{w32}
 use mir.Facts.{toZ-ofZ}
 use borrow.Author.Needs.{needs}
 use Rattle.dimacs.specs.Bodies.{numbersFrom, nothing, judged}
-use Rattle.dimacs.proofs.Tallies.{at-end, at-bad, at-number, at-place, Passed, from-nothing, nothing-passed, counted-passed}
+use Rattle.dimacs.proofs.Following.{next-place}
+use Rattle.dimacs.proofs.Tallies.{at-end, at-bad, at-number, Passed, from-nothing, nothing-passed, counted-passed}
 use Rattle.dimacs.proofs.body.judge.Statement.{statement}
 use Rattle.dimacs.proofs.body.judge.Tie as tie
 
@@ -51,14 +52,14 @@ counted-requires : tie.Need-counted-requires Inv-loop μ-loop
 counted-requires c κs =
     let n = c .before .before .before in
     let (_, (passed, inside)) = n .before .loop .inv in
-    let (further, within) = at-place _ _ _ (n .before .loop .tally) _ (n .next-number .ensures) (c .before .z .given .1) in
+    let (further, within) = next-place _ _ _ _ (n .next-number .ensures) (c .before .z .given .1) in
     let short = n .before .before .before .before .pre .1 .1 in
     (omega arith, passed .0)
 
 loop-less : tie.Need-loop-less Inv-loop μ-loop
 loop-less c =
     let n = c .before .before .before .before in
-    let (further, within) = at-place _ _ _ (n .before .loop .tally) _ (n .next-number .ensures) (c .before .before .z .given .1) in
+    let (further, within) = next-place _ _ _ _ (n .next-number .ensures) (c .before .before .z .given .1) in
     omega arith
 
 loop-again : tie.Need-loop-again Inv-loop μ-loop
@@ -66,7 +67,7 @@ loop-again c =
     let n = c .before .before .before .before in
     let f = c .before .before .z .given .1 in
     let (same, (passed, inside)) = n .before .loop .inv in
-    let (further, within) = at-place _ _ _ (n .before .loop .tally) _ (n .next-number .ensures) f in
+    let (further, within) = next-place _ _ _ _ (n .next-number .ensures) f in
     let told = toZ-ofZ {w = w32} {z = c .before .before .z .given .0 .0} (record { sfits = c .before .known-told .given .0 .1 }) in
     let e = at-number _ _ _ _ _ (n .next-number .ensures) f told (c .counted .ensures) in
     (same ∙ e, (counted-passed _ _ _ _ (c .counted .ensures) passed further, within))

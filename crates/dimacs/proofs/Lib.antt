@@ -10,3 +10,4 @@ pub mod Steps
 pub mod Following
 pub mod Tallies
 pub mod Writing
+pub mod Readings

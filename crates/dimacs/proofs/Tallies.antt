@@ -10,10 +10,13 @@ use lib.IntN.{ℤ}
 use lib.ListN.{length}
 use Rattle.rules.specs.Words.{one}
 use Rattle.rules.specs.Sheets.{closes, clauses, endsClosed}
+use Rattle.rules.proofs.Logic.{some-none, some-inj}
+use Rattle.dimacs.specs.declared.body.Body.{Body}
+use Rattle.dimacs.specs.declared.body.Body.the-variants as body
 use Rattle.dimacs.specs.declared.body.Tally.{Tally}
 use Rattle.dimacs.specs.declared.body.Next.{Next}
 use Rattle.dimacs.specs.declared.body.Next.the-variants.{Number, End, Bad}
-use Rattle.dimacs.specs.Bodies.{numbersFrom, prepend, Follows, nothing, counted, countedAll, judged}
+use Rattle.dimacs.specs.Bodies.{numbersFrom, prepend, Follows, nothing, counted, countedAll, judged, bodyIs}
 
 abbrev tally : ℕ → ℕ → Bool → Tally
 tally n z b = record { numbers = n; zeros = z; closed = b }
@@ -83,5 +86,31 @@ after-all t (z ∷ zs) =
     let k : t .zeros + one (closes z) + clauses zs ≡ t .zeros + (one (closes z) + clauses zs) = omega arith in
     after-all (counted z t) zs ∙ rw (n, k)
 
-pub all-counted : (zs : List ℤ) → countedAll nothing zs ≡ tally (length zs) (clauses zs) (endsClosed true zs)
+all-counted : (zs : List ℤ) → countedAll nothing zs ≡ tally (length zs) (clauses zs) (endsClosed true zs)
 all-counted zs = after-all nothing zs ∙ rw (zero-add (length zs), zero-add (clauses zs))
+
+-- what the answer for a body says of its numbers, once it is known which it is
+pub record Counts (b : Option (List ℤ)) (t : Tally) : Type 0 where
+  pub sheet : List ℤ
+  pub is : b ≡ some sheet
+  pub numbers : t .numbers ≡ length sheet
+  pub zeros : t .zeros ≡ clauses sheet
+  pub closed : t .closed ≡ endsClosed true sheet
+
+counts : (b : Option (List ℤ)) {t : Tally} → some t ≡ judged nothing b → Counts b t
+unfolding judged
+counts none e = some-none refl e
+counts (some zs) {t} e =
+    let same : t ≡ tally (length zs) (clauses zs) (endsClosed true zs) = some-inj e ∙ all-counted zs in
+    record { sheet = zs; is = refl; numbers = ap (λ x. x .numbers) same; zeros = ap (λ x. x .zeros) same; closed = ap (λ x. x .closed) same }
+
+no-sheet : (b : Option (List ℤ)) → none ≡ judged nothing b → b ≡ none
+unfolding judged
+no-sheet none e = refl
+no-sheet (some zs) e = some-none refl (sym e)
+
+pub sheet-counts : (b : Option (List ℤ)) (r : Body) {t : Tally} → bodyIs r ≡ judged nothing b → r ≡ body.Sheet t → Counts b t
+sheet-counts b r e f = counts b (sym (ap bodyIs f) ∙ e)
+
+pub bad-missing : (b : Option (List ℤ)) (r : Body) → bodyIs r ≡ judged nothing b → r ≡ body.Bad → b ≡ none
+bad-missing b r e f = no-sheet b (sym (ap bodyIs f) ∙ e)

@@ -39,6 +39,10 @@ all-before seen = ap some (append-nil seen)
 over-first : (old new : List ℤ) (i : ℕ) → i ≤ length new → drop i new ≡ drop i old → new ≡ over (take i new) old
 over-first old new i l e = rw (length-take-le i new l, ← e) (sym (take-append-drop i new))
 
+-- there is room for a sheet that is no longer
+pub has-room : (b : Option (List ℤ)) (room : ℕ) {zs : List ℤ} → b ≡ some zs → length zs ≤ room → HasRoom b room
+has-room b room e l = subst (λ o. HasRoom o room) (sym e) l
+
 -- where there is room for all, there is room for the next
 room-next : (seen : List ℤ) (z : ℤ) (later : Option (List ℤ)) (room : ℕ) → HasRoom (prependAll seen (prepend z later)) room → length seen < room
 unfolding prependAll prepend

@@ -53,11 +53,11 @@ abbrev pub headOf : List ℕ → Head → Option rules.Header
 headOf text (Found h) = some (record { inputs = h .inputs; clauses = h .clauses; body = drop (h .body) text })
 headOf text Missing = none
 
--- the positions lie in the text or at its end
+-- the positions lie in the text or at its end; V is in bounds
 abbrev pub InField : List ℕ → Field → Type 0
 InField text (field.Given m i) = i ≤ length text
 InField text field.Missing = Unit {0}
 
 abbrev pub InHead : List ℕ → Head → Type 0
-InHead text (Found h) = h .body ≤ length text
+InHead text (Found h) = (h .inputs ≤ maxInputs) × (h .body ≤ length text)
 InHead text Missing = Unit {0}

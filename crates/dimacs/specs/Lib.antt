@@ -4,3 +4,4 @@ pub mod Parts
 pub mod Rests
 pub mod Heads
 pub mod Bodies
+pub mod Verdicts

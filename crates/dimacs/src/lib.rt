@@ -2,9 +2,11 @@
 mod body;
 mod decimal;
 mod header;
+mod reader;
 mod scan;
 mod token;
 
+pub use reader::read;
 pub use token::Step;
 pub use token::Token;
 pub use token::next_token;

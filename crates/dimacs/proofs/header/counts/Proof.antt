@@ -1,6 +1,6 @@
 use Rattle.dimacs.specs.Heads.{counts}
 use Rattle.dimacs.proofs.Bytes.{rest-at, rest-missing, in-text}
-use Rattle.dimacs.proofs.Headings.{field-given, field-missing, in-field}
+use Rattle.dimacs.proofs.Headings.{field-given, field-missing, in-field, number-most}
 use borrow.Author.Needs.{needs}
 use Rattle.dimacs.proofs.header.counts.Statement.{statement}
 use Rattle.dimacs.proofs.header.counts.Tie as tie
@@ -89,7 +89,7 @@ returns-5 c =
     let e3 = field-given _ _ (m .before .before .before .number-at2 .ensures .0) (m .before .clauses .given .1) in
     let (left, high) = c .before .before .before .header-end .ensures in
     let e4 = rest-at _ _ left (c .before .body .given .1) in
-    (rw (e1, e2, e3, e4), in-text _ _ high (c .before .body .given .1))
+    (rw (e1, e2, e3, e4), (number-most _ _ _ e1, in-text _ _ high (c .before .body .given .1)))
 
 pub counts-spec : {M : Type 1} → statement M
 counts-spec =

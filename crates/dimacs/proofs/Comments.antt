@@ -1,8 +1,8 @@
 -- Comment lines, byte by byte.
-use mathlib.Core.Path.{_≡_, refl}
+use mathlib.Core.Path.{_≡_}
 use mathlib.Core.Bool.{Bool, true, false, not}
-use mathlib.Core.List.{List, []}
-use mathlib.Core.Option.{Option, none, some}
+use mathlib.Core.List.{List}
+use mathlib.Core.Option.{none, some}
 use Prim.Native.Nat.{ℕ, _+_, _<_, _≤_}
 use lib.Dec.{eqb}
 use lib.ListN.{length, drop, getD, drop-of-length-le}

@@ -1,8 +1,8 @@
 -- What a step of the reader says of the numbers that are left.
 use mathlib.Core.Path.{_≡_, refl, ap, sym, _∙_, subst}
-use mathlib.Core.Bool.{Bool, true, false}
-use mathlib.Core.List.{List, [], _∷_, _++_}
-use mathlib.Core.Option.{Option, none, some}
+use mathlib.Core.Bool.{Bool, false}
+use mathlib.Core.List.{List, [], _∷_}
+use mathlib.Core.Option.{none, some}
 use Prim.Native.Nat.{ℕ, _+_, _-_, _<_, _≤_}
 use native.Mathlib.Omega.{arith}
 use lib.Dec.{leb}
@@ -10,7 +10,7 @@ use lib.IntN.{ℤ, natAbs}
 use lib.ListN.{length, drop, length-append, length-drop, drop-of-length-le}
 use lib.Seq.{drop-at, drop-drop, drop-length}
 use borrow.Author.Tests.{leb-true, leb-false}
-use Rattle.rules.specs.Dimacs.{isBlank, notBlank, front, afterAll, Token, number, ends, other, tokenOf, joinNumber, tokens, numbers, Step, stepIn, step}
+use Rattle.rules.specs.Dimacs.{isBlank, notBlank, front, afterAll, Token, tokenOf, joinNumber, numbers, Step, stepIn, step}
 use Rattle.rules.proofs.Tokens.{after-more, after-end, tokens-none, tokens-more}
 use Rattle.rules.proofs.Logic.{test, some-none, some-inj, yes-not}
 use Rattle.dimacs.specs.declared.token.Token as answer

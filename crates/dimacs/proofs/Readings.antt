@@ -1,23 +1,21 @@
 -- The reader's verdict, refusal by refusal.
 use mathlib.Core.Path.{_≡_, refl, ap, sym, _∙_}
-use mathlib.Core.Bool.{Bool, true, false, not, _&&_}
+use mathlib.Core.Bool.{true, false, not, _&&_}
 use mathlib.Core.List.{List, [], _∷_}
 use mathlib.Core.Option.{Option, none, some, Option·getD}
 use Prim.Native.Nat.{ℕ, _<_, _≤_, min}
-use native.Mathlib.Omega.{arith}
 use lib.Dec.{eqb, ltb}
 use lib.IntN.{ℤ}
 use lib.ListN.{length, drop}
 use borrow.Author.Tests.{lt-ltb, le-ltb, eq-eqb, ne-eqb}
 use Rattle.rules.specs.Sheets.{maxNumbers, clauses, endsClosed}
 use Rattle.rules.specs.Dimacs.{maxBytes, Header, header, numbers, tokens}
-use Rattle.rules.specs.Answers.{Reply, Check, check, refusal, answered, Verdict, given, refused, judge, replyOf, over, after}
+use Rattle.rules.specs.Answers.{Reply, Check, check, refusal, answered, Verdict, given, refused, judge, replyOf, over}
 use Rattle.rules.specs.Calls.{Read, refusal15, readValues, read}
-use Rattle.rules.proofs.Logic.{test, and-join, no-not, yes-not}
-use Rattle.rules.proofs.Judged.{judge-applies, judge-passes, judge-none}
+use Rattle.rules.proofs.Judged.{judge-applies, judge-passes}
 use Rattle.rules.proofs.Refusals.{missing, read-judges}
 use Rattle.dimacs.specs.Bodies.{numbersFrom, sheetOf}
-use Rattle.dimacs.specs.Verdicts.{bodyVerdict}
+use Rattle.dimacs.specs.Verdicts.{bodyVerdict, cellsOf}
 
 -- The verdict on a text of this length and header.
 abbrev headerFrom : Option Header → Header
@@ -97,9 +95,6 @@ module _ (v c room : ℕ) where
     a-sheet p q l = rw (e, eq-eqb (clauses zs) c p, q, le-ltb (min room maxNumbers) (length zs) l)
 
 -- What a refusal and a sheet mean for the answer and the cells.
-abbrev pub cellsOf : Verdict Read → List ℤ → List ℤ
-cellsOf r old = after (λ (x : Read). x .numbers) r old
-
 pub answer-refused : (k : Reply) (r : Verdict Read) (old : List ℤ) → r ≡ refused k → (k ≡ replyOf readValues r) × (old ≡ cellsOf r old)
 answer-refused k r old e = (sym (ap (replyOf readValues) e), sym (ap (λ x. cellsOf x old) e))
 

@@ -6,8 +6,7 @@ ghost use Rattle.rules.specs.Words.{maxInputs};
 ghost use Rattle.rules.specs.Dimacs.{maxBytes};
 ghost use Rattle.rules.specs.Answers.{readReply, replyOf, after};
 ghost use Rattle.rules.specs.Calls.{Read, readValues, read};
-ghost use Rattle.dimacs.specs.Bodies.{numbersFrom};
-ghost use Rattle.dimacs.specs.Verdicts.{bodyVerdict};
+ghost use Rattle.dimacs.specs.Verdicts.{verdictFor, cellsOf};
 use crate::body::Body;
 use crate::body::judge;
 use crate::body::write;
@@ -23,8 +22,8 @@ use rules::Text;
 fn read_body(h: Header, text: &[u8], numbers: &mut [i32]) -> ReadAnswer
     requires { ⌜ (h .inputs ≤ maxInputs) × (h .body ≤ length (now text)) ⌝ }
     requires { ⌜ length (now text) ≤ maxBytes ⌝ }
-    ensures reply { λ r. ⌜ readReply r ≡ replyOf readValues (bodyVerdict (h .inputs) (h .clauses) (numbersFrom (h .inputs) (now (text .entry)) (h .body)) (length (now (numbers .entry)))) ⌝ }
-    ensures memory { λ r. ⌜ now (numbers .exit) ≡ after (λ (x : Read). x .numbers) (bodyVerdict (h .inputs) (h .clauses) (numbersFrom (h .inputs) (now (text .entry)) (h .body)) (length (now (numbers .entry)))) (now (numbers .entry)) ⌝ }
+    ensures reply { λ r. ⌜ readReply r ≡ replyOf readValues (verdictFor h (now (text .entry)) (length (now (numbers .entry)))) ⌝ }
+    ensures memory { λ r. ⌜ now (numbers .exit) ≡ cellsOf (verdictFor h (now (text .entry)) (length (now (numbers .entry)))) (now (numbers .entry)) ⌝ }
 {
     let inputs = h.inputs;
     let clauses = h.clauses as usize;

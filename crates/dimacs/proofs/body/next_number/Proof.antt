@@ -3,10 +3,10 @@ use Prim.Native.Nat.{_≤_}
 use native.Mathlib.Nat.{le-trans}
 use lib.IntN.{natAbs}
 use mir.Facts.{toZ-ofZ}
+use borrow.Author.Needs.{needs}
 use Rattle.rules.specs.Words.{maxInputs}
 use Rattle.dimacs.proofs.Signs.{kept, kept-small}
 use Rattle.dimacs.proofs.Following.{none-left, percent-next, other-next, number-next, number-bounded}
-use borrow.Author.Needs.{needs}
 use Rattle.dimacs.proofs.body.next_number.Statement.{statement}
 use Rattle.dimacs.proofs.body.next_number.Tie as tie
 

@@ -1,5 +1,5 @@
-use Rattle.dimacs.proofs.Decimals.{is-longer, not-longer}
 use borrow.Author.Needs.{needs}
+use Rattle.dimacs.proofs.Decimals.{is-longer, not-longer}
 use Rattle.dimacs.proofs.decimal.begins_longer.Statement.{statement}
 use Rattle.dimacs.proofs.decimal.begins_longer.Tie as tie
 

@@ -1,5 +1,5 @@
-use Rattle.dimacs.proofs.Decimals.{is-byte, not-byte}
 use borrow.Author.Needs.{needs}
+use Rattle.dimacs.proofs.Decimals.{is-byte, not-byte}
 use Rattle.dimacs.proofs.decimal.is_byte.Statement.{statement}
 use Rattle.dimacs.proofs.decimal.is_byte.Tie as tie
 

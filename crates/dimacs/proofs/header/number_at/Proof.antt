@@ -1,5 +1,5 @@
-use Rattle.dimacs.proofs.Headings.{number-given, number-missing}
 use borrow.Author.Needs.{needs}
+use Rattle.dimacs.proofs.Headings.{number-given, number-missing}
 use Rattle.dimacs.proofs.header.number_at.Statement.{statement}
 use Rattle.dimacs.proofs.header.number_at.Tie as tie
 

@@ -1,10 +1,10 @@
 use mathlib.Core.Bool.{false}
 use mathlib.Core.List.{[], _∷_}
 use lib.ListN.{drop}
+use borrow.Author.Needs.{needs}
 use Rattle.rules.specs.Dimacs.{afterComments}
 use Rattle.dimacs.specs.Heads.{afterWord, opening}
 use Rattle.dimacs.proofs.Bytes.{Reached, reached, rest-missing}
-use borrow.Author.Needs.{needs}
 use Rattle.dimacs.proofs.header.opening.Statement.{statement}
 use Rattle.dimacs.proofs.header.opening.Tie as tie
 

@@ -1,9 +1,8 @@
-use mathlib.Core.Path.{_∙_}
+use borrow.Author.Needs.{needs}
 use Rattle.rules.specs.Calls.{read}
 use Rattle.dimacs.specs.Verdicts.{bodyVerdict}
 use Rattle.dimacs.proofs.Headings.{head-found, head-missing, in-head}
 use Rattle.dimacs.proofs.Readings.{long-text, no-header, with-header, answer-refused, answer-same}
-use borrow.Author.Needs.{needs}
 use Rattle.dimacs.proofs.reader.read.Statement.{statement}
 use Rattle.dimacs.proofs.reader.read.Tie as tie
 

@@ -1,4 +1,4 @@
-use mathlib.Core.Path.{_≡_, ap, sym, _∙_, subst}
+use mathlib.Core.Path.{_≡_, sym, _∙_}
 use mathlib.Core.Bool.{true}
 use mathlib.Core.List.{List}
 use mathlib.Core.Option.{Option}
@@ -11,11 +11,11 @@ use Rattle.rules.specs.Sheets.{maxNumbers, clauses, endsClosed}
 use Rattle.rules.specs.Answers.{Reply, refusal, Verdict, refused, given, replyOf}
 use Rattle.rules.specs.Calls.{Read, readValues}
 use Rattle.rules.proofs.Logic.{not-yes, not-no}
-use Rattle.dimacs.specs.Bodies.{numbersFrom, HasRoom}
-use Rattle.dimacs.specs.Verdicts.{bodyVerdict}
+use Rattle.dimacs.specs.Bodies.{numbersFrom}
+use Rattle.dimacs.specs.Verdicts.{verdictFor, cellsOf}
 use Rattle.dimacs.proofs.Tallies.{Counts, sheet-counts, bad-missing}
 use Rattle.dimacs.proofs.Writing.{has-room}
-use Rattle.dimacs.proofs.Readings.{bad-token, other-count, not-closed, no-cells, a-sheet, cellsOf, answer-refused, answer-given}
+use Rattle.dimacs.proofs.Readings.{bad-token, other-count, not-closed, no-cells, a-sheet, answer-refused, answer-given}
 use Rattle.dimacs.proofs.reader.read_body.Statement.{statement}
 use Rattle.dimacs.proofs.reader.read_body.Tie as tie
 
@@ -27,7 +27,7 @@ abbrev cellsAt : tie.After-judge → List ℤ
 cellsAt c = c .before .before .before .args .numbers .now
 
 abbrev verdictAt : tie.After-judge → Verdict Read
-verdictAt c = let a = c .before .before .before .args in bodyVerdict (a .h .inputs) (a .h .clauses) (numbersAt c) (length (cellsAt c))
+verdictAt c = let a = c .before .before .before .args in verdictFor (a .h) (a .text .now) (length (cellsAt c))
 
 refuse : (c : tie.After-judge) (k : Reply) → verdictAt c ≡ refused k → (k ≡ replyOf readValues (verdictAt c)) × (cellsAt c ≡ cellsOf (verdictAt c) (cellsAt c))
 refuse c k e = answer-refused k (verdictAt c) (cellsAt c) e

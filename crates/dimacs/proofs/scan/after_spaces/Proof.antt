@@ -1,7 +1,7 @@
 use mathlib.Core.Path.{ap}
 use mathlib.Core.Option.{some}
-use Rattle.dimacs.proofs.Bytes.{rest-at, rest-missing, in-text}
 use borrow.Author.Needs.{needs}
+use Rattle.dimacs.proofs.Bytes.{rest-at, rest-missing, in-text}
 use Rattle.dimacs.proofs.scan.after_spaces.Statement.{statement}
 use Rattle.dimacs.proofs.scan.after_spaces.Tie as tie
 

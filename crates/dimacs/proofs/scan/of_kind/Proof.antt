@@ -1,7 +1,6 @@
-use mathlib.Core.Path.{ap, sym, _∙_}
+use mathlib.Core.Path.{ap}
 use mathlib.Core.Bool.{not}
 use borrow.Author.Needs.{needs}
-use Rattle.dimacs.specs.Kinds.{ofKind}
 use Rattle.dimacs.proofs.scan.of_kind.Statement.{statement}
 use Rattle.dimacs.proofs.scan.of_kind.Tie as tie
 

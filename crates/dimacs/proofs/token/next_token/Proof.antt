@@ -1,6 +1,6 @@
 use native.Mathlib.Omega.{arith}
-use Rattle.dimacs.proofs.Steps.{step-none, step-token}
 use borrow.Author.Needs.{needs}
+use Rattle.dimacs.proofs.Steps.{step-none, step-token}
 use Rattle.dimacs.proofs.token.next_token.Statement.{statement}
 use Rattle.dimacs.proofs.token.next_token.Tie as tie
 

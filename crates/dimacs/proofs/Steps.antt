@@ -8,6 +8,7 @@ use lib.ListN.{length, take, drop, length-drop, drop-of-length-le}
 use Rattle.rules.specs.Dimacs.{isBlank, notBlank, front, afterAll, Token, tokenOf, Step, stepIn, step}
 use Rattle.dimacs.proofs.Passing.{front-part}
 
+-- where a byte is left, a step gives its token
 step-in : (v size : ℕ) (t : List ℕ) → 0 < length t
     → stepIn v size t ≡ some (record { token = tokenOf v (front notBlank t); place = size - length (afterAll notBlank t) })
 step-in v size [] l = absurd (omega arith)

@@ -36,7 +36,7 @@ fn digits_within(part: &[u8], low: u32, high: u32) -> Decimal
         if !is_digit(b) {
             return Decimal::Missing;
         }
-        sum = sum * 10 + ((b - 48) as u64);
+        sum = sum * 10 + ((b - b'0') as u64);
         if high < sum {
             return Decimal::Missing;
         }

@@ -6,6 +6,7 @@ ghost use Rattle.rules.specs.Dimacs.{isDigit, isGap, isBlank, afterAll, afterBy
 ghost use Rattle.dimacs.specs.Kinds.{ofKind};
 ghost use Rattle.dimacs.specs.Rests.{restOf, InText};
 
+// A mark is any byte but a blank.
 pub enum Kind {
     Space,
     Gap,
@@ -17,26 +18,26 @@ pub enum Kind {
 pub fn is_digit(b: u8) -> bool
     ensures { λ r. ⌜ r ≡ isDigit b ⌝ }
 {
-    (48 <= b) & (b <= 57)
+    (b'0' <= b) & (b <= b'9')
 }
 
-pub fn is_gap(b: u8) -> bool
+fn is_gap(b: u8) -> bool
     ensures { λ r. ⌜ r ≡ isGap b ⌝ }
 {
-    (b == 32) | (b == 9)
+    (b == b' ') | (b == b'\t')
 }
 
-pub fn is_blank(b: u8) -> bool
+fn is_blank(b: u8) -> bool
     ensures { λ r. ⌜ r ≡ isBlank b ⌝ }
 {
-    ((b == 32) | (b == 9)) | ((b == 13) | (b == 10))
+    ((b == b' ') | (b == b'\t')) | ((b == b'\r') | (b == b'\n'))
 }
 
-pub fn of_kind(kind: Kind, b: u8) -> bool
+fn of_kind(kind: Kind, b: u8) -> bool
     ensures { λ r. ⌜ r ≡ ofKind kind b ⌝ }
 {
     match kind {
-        Kind::Space => 32 == b,
+        Kind::Space => b' ' == b,
         Kind::Gap => is_gap(b),
         Kind::Blank => is_blank(b),
         Kind::Mark => !is_blank(b),

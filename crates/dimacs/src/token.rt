@@ -11,7 +11,7 @@ use crate::decimal::is_byte;
 use crate::scan::Kind;
 use crate::scan::after_all;
 
-// A number in form, closing zeros with them; `%`, which ends the text; or anything else.
+// A number in form, closing zeros with them; `%`, which ends the text; or anything else. 64 bits hold -v..v for every v.
 pub enum Token {
     Number(i64),
     Percent,
@@ -38,6 +38,7 @@ fn negated(m: u32) -> i64
     0 - (m as i64)
 }
 
+// The token that a part is.
 fn token_of(v: u32, part: &[u8]) -> Token
     ensures { λ r. ⌜ tokenIs r ≡ tokenOf v (now (part .entry)) ⌝ }
 {

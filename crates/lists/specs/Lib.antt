@@ -1,0 +1,2 @@
+pub mod Temp
+pub mod Blank

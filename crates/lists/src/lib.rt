@@ -1,0 +1,3 @@
+pub fn keep(x: usize) -> usize {
+    x
+}

@@ -1,0 +1,6 @@
+-- Laws of the search, by subject.
+pub mod Rows
+pub mod Covers
+pub mod Liveness
+pub mod Places
+pub mod Steps

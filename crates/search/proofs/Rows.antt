@@ -1,0 +1,57 @@
+-- Kept rows read two words at a time.
+use mathlib.Core.Path.{_≡_, refl, sym, ap, _∙_}
+use mathlib.Core.Bool.{Bool, true, false, _&&_, _||_}
+use mathlib.Core.List.{List, [], _∷_}
+use Prim.Native.Nat.{ℕ, suc, _+_, _*_, _/_, _≤_, _<_}
+use native.Mathlib.Omega.{arith}
+use lib.Bits.{bitAnd}
+use lib.ListN.{length, getD, drop, length-drop}
+use lib.Seq.{drop-cons}
+use borrow.Author.Tests.{eq-eqb, ne-eqb}
+use Rattle.rules.specs.declared.Row.{Row}
+use Rattle.search.specs.Kept.{rowsOf}
+use Rattle.search.specs.Question.{covers, coversSome}
+
+-- the k-th kept row
+abbrev rowAt : List ℕ → ℕ → Row
+rowAt ws k = record { care = getD ws (2 * k) 0; value = getD ws (2 * k + 1) 0 }
+
+-- the rows from the k-th on are the k-th and those after it; after the last there are none
+rows-more : (ws : List ℕ) (k : ℕ) → k < length ws / 2 → rowsOf (drop (2 * k) ws) ≡ rowAt ws k ∷ rowsOf (drop (2 * (k + 1)) ws)
+unfolding rowsOf
+rows-more ws k h =
+    let one : suc (2 * k) ≡ 2 * k + 1 = omega arith in
+    let two : suc (2 * k + 1) ≡ 2 * (k + 1) = omega arith in
+    rw (drop-cons ws (2 * k) 0 (omega arith), one, drop-cons ws (2 * k + 1) 0 (omega arith), two)
+
+rows-end : (ws : List ℕ) (k : ℕ) → length ws / 2 ≤ k → rowsOf (drop (2 * k) ws) ≡ []
+unfolding rowsOf
+rows-end ws k h = few (drop (2 * k) ws) (omega (arith, length-drop (2 * k) ws))
+  where
+    few : (xs : List ℕ) → length xs ≤ 1 → rowsOf xs ≡ []
+    few [] l = refl
+    few (c ∷ []) l = refl
+    few (c ∷ v ∷ xs) l = absurd (omega arith)
+
+-- the loop that asks whether some kept row holds all of r, at the k-th row
+module _ (r : Row) (ws : List ℕ) (k : ℕ) (whole : Bool) (inv : coversSome r (rowsOf (drop (2 * k) ws)) ≡ whole) where
+  more : k < length ws / 2 → (covers r (rowAt ws k) || coversSome r (rowsOf (drop (2 * (k + 1)) ws))) ≡ whole
+  unfolding coversSome
+  more h = sym (ap (coversSome r) (rows-more ws k h)) ∙ inv
+
+  pub hit : k < length ws / 2 → bitAnd (getD ws (2 * k) 0) (r .care) ≡ getD ws (2 * k) 0
+      → bitAnd (r .value) (getD ws (2 * k) 0) ≡ getD ws (2 * k + 1) 0 → true ≡ whole
+  hit h p q = rw (eq-eqb _ _ p, eq-eqb _ _ q) at (more h)
+
+  pub miss-care : k < length ws / 2 → (bitAnd (getD ws (2 * k) 0) (r .care) ≡ getD ws (2 * k) 0 → ⊥)
+      → coversSome r (rowsOf (drop (2 * (k + 1)) ws)) ≡ whole
+  miss-care h p = rw (ne-eqb _ _ p) at (more h)
+
+  pub miss-value : k < length ws / 2 → bitAnd (getD ws (2 * k) 0) (r .care) ≡ getD ws (2 * k) 0
+      → (bitAnd (r .value) (getD ws (2 * k) 0) ≡ getD ws (2 * k + 1) 0 → ⊥)
+      → coversSome r (rowsOf (drop (2 * (k + 1)) ws)) ≡ whole
+  miss-value h p q = rw (eq-eqb _ _ p, ne-eqb _ _ q) at (more h)
+
+  pub missed : length ws / 2 ≤ k → false ≡ whole
+  unfolding coversSome
+  missed h = sym (ap (coversSome r) (rows-end ws k h)) ∙ inv

@@ -1,0 +1,41 @@
+-- One level of the search, as the definition has it.
+use mathlib.Core.Path.{_≡_, refl, sym, ap, _∙_}
+use mathlib.Core.Bool.{Bool, true, false, cond}
+use mathlib.Core.List.{List, [], _∷_}
+use mathlib.Core.Option.{Option, none, some}
+use Prim.Native.Nat.{ℕ, _+_, _-_, _≤_, _<_}
+use lib.ListN.{length, getD, drop, drop-of-length-le}
+use Rattle.rules.specs.declared.Row.{Row}
+use Rattle.rules.specs.declared.Setting.{Setting}
+use Rattle.rules.specs.Words.{fixes, atZero, atOne}
+use Rattle.rules.specs.Search.{orElse, smallest}
+use Rattle.rules.proofs.Reach.{smallest-pass, smallest-try}
+use Rattle.search.specs.declared.Found.{Found}
+use Rattle.search.specs.declared.Found.the-variants.{At, Nothing}
+use Rattle.search.specs.Question.{foundAs}
+use Rattle.search.proofs.Places.{first-left}
+
+module _ (P : ℕ → Bool) (order : List ℕ) (place : ℕ) (r : Row) where
+  pub at-end : length order ≤ place → P (r .value) ≡ true → some (r .value) ≡ smallest P (drop place order) r
+  unfolding smallest
+  at-end h p = rw (drop-of-length-le order h, p)
+
+  module _ (v : ℕ) (h : place < length order) (e : v ≡ getD order place 0) where
+    pub passes : fixes r v ≡ true → smallest P (drop place order) r ≡ smallest P (drop (place + 1) order) r
+    passes f = ap (λ (vs : List ℕ). smallest P vs r) (first-left order place v h e) ∙ smallest-pass P v (drop (place + 1) order) r f
+
+    tries : fixes r v ≡ false
+        → smallest P (drop place order) r ≡ orElse (smallest P (drop (place + 1) order) (atZero v r)) (smallest P (drop (place + 1) order) (atOne v r))
+    tries f = ap (λ (vs : List ℕ). smallest P vs r) (first-left order place v h e) ∙ smallest-try P v (drop (place + 1) order) r f
+
+    -- what is found with 0 is the answer; if nothing is, what is found with 1
+    module _ (f : fixes r v ≡ false) (low : Row) (low-is : low ≡ atZero v r) where
+      pub with-zero : (found : Found) (s : Setting) → foundAs found ≡ smallest P (drop (place + 1) order) low → found ≡ At s
+          → some (s .0) ≡ smallest P (drop place order) r
+      with-zero found s z e =
+          let z' : foundAs found ≡ smallest P (drop (place + 1) order) (atZero v r) = z ∙ ap (smallest P (drop (place + 1) order)) low-is in
+          sym (tries f ∙ rw (← z', e))
+
+      pub with-one : (high : Row) → high ≡ atOne v r → (o : Option ℕ) → smallest P (drop (place + 1) order) low ≡ none
+          → o ≡ smallest P (drop (place + 1) order) high → o ≡ smallest P (drop place order) r
+      with-one high high-is o z e = sym (tries f ∙ rw (← low-is, ← high-is, z, ← e))

@@ -1,0 +1,3 @@
+-- What a search is asked, and what it answers.
+pub mod Kept
+pub mod Question

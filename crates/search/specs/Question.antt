@@ -1,0 +1,56 @@
+-- The question: the smallest setting of a row that satisfies two sheets and lies in none of the kept rows.
+use mathlib.Core.Path.{_≡_}
+use mathlib.Core.Bool.{Bool, true, false, not, _&&_, _||_}
+use mathlib.Core.List.{List, [], _∷_}
+use mathlib.Core.Option.{Option, none, some}
+use Prim.Native.Nat.{ℕ, _<_, _≤_}
+use lib.Bits.{bitAnd}
+use lib.Dec.{eqb}
+use lib.IntN.{ℤ}
+use lib.ListN.{length, drop}
+use Rattle.rules.specs.declared.Row.{Row}
+use Rattle.rules.specs.Words.{maxInputs, isOrder, fits, holds, inSome}
+use Rattle.rules.specs.Sheets.{satisfies, everyClause, inReach}
+use Rattle.rules.proofs.Bits.{bit}
+use Rattle.rules.proofs.Orders.{has}
+use Rattle.sheets.specs.Open.{isOpen}
+use Rattle.search.specs.declared.Found.{Found}
+use Rattle.search.specs.declared.Found.the-variants.{At, Nothing}
+
+-- the setting satisfies both sheets and lies in none of the rows
+unfoldable pub good : List ℤ → List ℤ → List Row → ℕ → Bool
+good a b rows s = satisfies a s && (satisfies b s && not (inSome rows s))
+
+-- the row c holds every setting of the partial setting r; some row does
+abbrev pub covers : Row → Row → Bool
+covers r c = eqb (bitAnd (c .care) (r .care)) (c .care) && holds c (r .value)
+
+unfoldable pub coversSome : Row → List Row → Bool
+coversSome r [] = false
+coversSome r (c ∷ rows) = covers r c || coversSome r rows
+
+-- nothing shows yet that no setting of r is good: no clause is lost, and no row holds all of r
+unfoldable pub live : List ℤ → List ℤ → List Row → Row → Bool
+live a b rows r = everyClause (isOpen r) false a && (everyClause (isOpen r) false b && not (coversSome r rows))
+
+-- what was found
+abbrev pub foundAs : Found → Option ℕ
+foundAs (At s) = some (s .0)
+foundAs Nothing = none
+
+-- no row cares for a variable above n
+unfoldable pub caresWithin : ℕ → List Row → Bool
+caresWithin n [] = true
+caresWithin n (r ∷ rows) = fits n (r .care) && caresWithin n rows
+
+-- what every search asks: an order of at most 24 variables, and sheets and rows of these
+pub record Asked (order : List ℕ) (a b : List ℤ) (rows : List Row) : Type 0 where
+  pub ordered : isOrder (length order) order ≡ true
+  pub size : length order ≤ maxInputs
+  pub reach-a : inReach (length order) a ≡ true
+  pub reach-b : inReach (length order) b ≡ true
+  pub cares : caresWithin (length order) rows ≡ true
+
+-- the row fixes every variable before the place; and no other
+abbrev pub Passed : List ℕ → ℕ → Row → Type 0
+Passed order place r = (i : ℕ) → i < length order → has i (drop place order) ≡ false → bit i (r .care) ≡ true

@@ -1,0 +1,11 @@
+// The smallest setting of a row that satisfies two sheets and lies in none of the kept rows.
+mod cut;
+mod smallest;
+mod step;
+
+use rules::Setting;
+
+pub enum Found {
+    At(Setting),
+    Nothing,
+}

@@ -1,0 +1,48 @@
+// The search: place by place of the order, a variable that the row fixes is passed, any other is tried at 0 and then at 1. A row
+// is looked at once, where a variable was fixed; a row that is not live is left.
+ghost use mathlib.Core.Path.{_≡_};
+ghost use mathlib.Core.Bool.{true};
+ghost use lib.ListN.{drop};
+ghost use Rattle.rules.specs.Search.{smallest};
+ghost use Rattle.sheets.specs.Numbers.{numbersOf};
+ghost use Rattle.search.specs.Kept.{rowsOf};
+ghost use Rattle.search.specs.Question.{good, live, foundAs, Asked, Passed};
+
+use crate::cut::live;
+use crate::step::{at_one, at_zero, var_at};
+use crate::Found;
+use rules::{Place, Row, Setting};
+use sheets::is_one;
+
+// The smallest good setting of a live row that fixes every variable before the place.
+pub fn search(order: &&[u32], place: Place, row: Row, a: &&[u8], b: &&[u8], rows: &&[u32]) -> Found
+    requires { ⌜ Asked (now (now order)) (numbersOf (now (now a))) (numbersOf (now (now b))) (rowsOf (now (now rows))) ⌝ }
+    requires { ⌜ Passed (now (now order)) (place .0) row ⌝ }
+    requires { ⌜ live (numbersOf (now (now a))) (numbersOf (now (now b))) (rowsOf (now (now rows))) row ≡ true ⌝ }
+    ensures { λ r. ⌜ foundAs r ≡ smallest (good (numbersOf (now (now (a .entry)))) (numbersOf (now (now (b .entry)))) (rowsOf (now (now (rows .entry))))) (drop (place .0) (now (now (order .entry)))) row ⌝ }
+{
+    let at = place.0;
+    let care = row.care;
+    let value = row.value;
+    let o = *order;
+    if o.len() <= at {
+        return Found::At(Setting(value));
+    }
+    let v = var_at(o, place);
+    let next = at + 1;
+    if is_one(v, care) {
+        return search(order, Place(next), row, a, b, rows);
+    }
+    let low = at_zero(row, v);
+    if live(a, b, rows, low) {
+        let f = search(order, Place(next), low, a, b, rows);
+        if let Found::At(s) = f {
+            return Found::At(s);
+        }
+    }
+    let high = at_one(row, v);
+    if live(a, b, rows, high) {
+        return search(order, Place(next), high, a, b, rows);
+    }
+    Found::Nothing
+}

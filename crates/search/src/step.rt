@@ -1,0 +1,37 @@
+// One step down the order: the variable at a place, and the row with it fixed.
+ghost use mathlib.Core.Path.{_≡_};
+ghost use Prim.Native.Nat.{_≤_, _<_};
+ghost use lib.ListN.{length, getD};
+ghost use Rattle.rules.specs.Words.{maxInputs, atZero, atOne};
+
+use rules::{Place, Row, Var};
+
+// The variable that stands at the place.
+pub fn var_at(order: &[u32], p: Place) -> Var
+    requires { ⌜ p .0 < length (now order) ⌝ }
+    ensures { λ r. ⌜ r .0 ≡ getD (now (order .entry)) (p .0) 0 ⌝ }
+{
+    let i = p.0;
+    Var(order[i])
+}
+
+// The row with the variable fixed at 0.
+pub fn at_zero(row: Row, v: Var) -> Row
+    requires { ⌜ (1 ≤ v .0) × (v .0 ≤ maxInputs) ⌝ }
+    ensures { λ r. ⌜ r ≡ atZero (v .0) row ⌝ }
+{
+    let care = row.care;
+    let value = row.value;
+    Row { care: care | v.bit(), value }
+}
+
+// The row with the variable fixed at 1.
+pub fn at_one(row: Row, v: Var) -> Row
+    requires { ⌜ (1 ≤ v .0) × (v .0 ≤ maxInputs) ⌝ }
+    ensures { λ r. ⌜ r ≡ atOne (v .0) row ⌝ }
+{
+    let bit = v.bit();
+    let care = row.care;
+    let value = row.value;
+    Row { care: care | bit, value: value | bit }
+}

@@ -9,6 +9,7 @@ ghost use Rattle.rules.specs.Calls.{wordsOf};
 ghost use Rattle.sheets.specs.Numbers.{wordFrom};
 use crate::literal::bits_of;
 
+// A byte as a word, with its range.
 fn wide(b: u8) -> u32
     ensures { λ r. ⌜ (r ≡ b) × (r < 256) ⌝ }
 {

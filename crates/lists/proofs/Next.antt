@@ -51,24 +51,25 @@ none-below (v ∷ vs) s =
     ap (λ (b : Bool). before (isOne v s) b (smaller vs s 0)) (bit-zero (v - 1))
     ∙ test (isOne v s) (λ e. ap (λ (b : Bool). before b false (smaller vs s 0)) e) (λ e. ap (λ (b : Bool). before b false (smaller vs s 0)) e ∙ none-below vs s)
 
+-- On, and in no row so far.
+abbrev pub unheld : (ℕ → Bool) → List Row → ℕ → Bool
+unheld on rows s = on s && not (inSome rows s)
+
+-- The next setting is the smallest not below `last`.
+unfoldable pub Resumes : List ℕ → (ℕ → Bool) → ℕ → List Row → Type 0
+Resumes order on last rows = next order on rows ≡ smallest (notBelow order last (unheld on rows)) order dashes
+
 module _ (n : ℕ) (order : List ℕ) (o : IsOrder n order) (on : ℕ → Bool) where
-  abbrev unheld : List Row → ℕ → Bool
-  unheld rows s = on s && not (inSome rows s)
-
-  -- The next setting is the smallest not below `last`.
-  abbrev pub Resumes : ℕ → List Row → Type 0
-  Resumes last rows = next order on rows ≡ smallest (notBelow order last (unheld rows)) order dashes
-
-  pub resumes-first : Resumes 0 []
-  unfolding next
+  pub resumes-first : Resumes order on 0 []
+  unfolding Resumes next
   resumes-first =
-      smallest-same n order o (unheld []) dashes (dashes-row n) (notBelow order 0 (unheld []))
-        (λ t l h. sym (and-true (unheld [] t)) ∙ ap (λ (b : Bool). unheld [] t && not b) (sym (none-below order t)))
+      smallest-same n order o (unheld on []) dashes (dashes-row n) (notBelow order 0 (unheld on []))
+        (λ t l h. sym (and-true (unheld on [] t)) ∙ ap (λ (b : Bool). unheld on [] t && not b) (sym (none-below order t)))
 
-  pub resumes-next : (rows : List Row) (r : Row) (s : ℕ) → next order on rows ≡ some s → Resumes s (rows ++ (r ∷ []))
-  unfolding next
+  pub resumes-next : (rows : List Row) (r : Row) (s : ℕ) → next order on rows ≡ some s → Resumes order on s (rows ++ (r ∷ []))
+  unfolding Resumes next
   resumes-next rows r s e =
-      resume n order o (unheld rows) (unheld (rows ++ (r ∷ []))) s
+      resume n order o (unheld on rows) (unheld on (rows ++ (r ∷ []))) s
         (λ t h. let a = and-both (on t) (not (inSome (rows ++ (r ∷ [])) t)) h in
           let b = or-none (inSome rows t) (inSome (r ∷ []) t) (sym (inSome-append rows (r ∷ []) t) ∙ not-yes (inSome (rows ++ (r ∷ [])) t) (a .1)) in
           and-join (a .0) (yes-not (b .0)))
@@ -76,10 +77,11 @@ module _ (n : ℕ) (order : List ℕ) (o : IsOrder n order) (on : ℕ → Bool) 
 
 -- The search's answers, as the method asks for them.
 module _ (n : ℕ) (order : List ℕ) (o : IsOrder n order) (a : List ℤ) (barred : List Row) where
-  pub next-found : (last : ℕ) (rows : List Row) → Resumes n order o (good a [] barred) last rows
+  pub next-found : (last : ℕ) (rows : List Row) → Resumes order (good a [] barred) last rows
       → smallest (notBelow order last (good a [] (barred ++ rows))) order dashes ≡ next order (good a [] barred) rows
+  unfolding Resumes
   next-found last rows h =
-      smallest-same n order o (notBelow order last (good a [] (barred ++ rows))) dashes (dashes-row n) (notBelow order last (unheld n order o (good a [] barred) rows))
+      smallest-same n order o (notBelow order last (good a [] (barred ++ rows))) dashes (dashes-row n) (notBelow order last (unheld (good a [] barred) rows))
         (λ t l k. ap (λ (b : Bool). b && not (smaller order t last)) (good-append a [] barred rows t))
       ∙ sym h
 

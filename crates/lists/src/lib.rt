@@ -1,3 +1,5 @@
-pub fn keep(x: usize) -> usize {
-    x
-}
+// The list: widening, generation and pruning over the one search, and the calls that give a list or its value.
+mod blank;
+mod generate;
+mod prune;
+mod widen;

@@ -5,6 +5,8 @@ mod step;
 
 use rules::Setting;
 
+pub use smallest::find;
+
 pub enum Found {
     At(Setting),
     Nothing,

@@ -46,3 +46,14 @@ pub fn search(order: &&[u32], place: Place, row: Row, a: &&[u8], b: &&[u8], rows
     }
     Found::Nothing
 }
+
+// The smallest good setting of the row.
+pub fn find(order: &[u32], row: Row, a: &[u8], b: &[u8], rows: &[u32]) -> Found
+    requires { ⌜ Asked (now order) (numbersOf (now a)) (numbersOf (now b)) (rowsOf (now rows)) ⌝ }
+    ensures { λ r. ⌜ foundAs r ≡ smallest (good (numbersOf (now (a .entry))) (numbersOf (now (b .entry))) (rowsOf (now (rows .entry)))) (now (order .entry)) row ⌝ }
+{
+    if live(&a, &b, &rows, row) {
+        return search(&order, Place(0), row, &a, &b, &rows);
+    }
+    Found::Nothing
+}

@@ -34,7 +34,7 @@ blanked-holds (b ∷ m) (r ∷ rows) l s = go b (blanked-holds m rows (le-of-suc
   where
     go : (b : Bool) → inSome (blanked m rows) s ≡ inSome (picked m (take (length m) rows) ++ drop (length m) rows) s
         → (holds (cond b r blank) s || inSome (blanked m rows) s)
-          ≡ inSome (cond b (r ∷ picked m (take (length m) rows)) (picked m (take (length m) rows)) ++ drop (length m) rows) s
+        ≡ inSome (cond b (r ∷ picked m (take (length m) rows)) (picked m (take (length m) rows)) ++ drop (length m) rows) s
     go true e = ap (λ (x : Bool). holds r s || x) e
     go false e = rw (blank-holds s) e
 
@@ -65,9 +65,9 @@ row-solid : (n : ℕ) (r : Row) → isRow n r ≡ true → isBlank r ≡ false
 row-solid n r w =
     let b = and-both (fits n (r .care)) (holds r (r .value)) w in
     fails (λ h. let e = and-both (eqb (r .care) 0) (eqb (r .value) 1) h in
-      let c = eqb-true (r .care) 0 (e .0) in
-      let v = eqb-true (r .value) 1 (e .1) in
-      clash (b .1) (ne-eqb _ (r .value) (λ q. let z : 0 ≡ 1 = sym (and-zero-r (r .value)) ∙ ap (λ (k : ℕ). lib.Bits.bitAnd (r .value) k) (sym c) ∙ q ∙ v in omega arith)))
+    let c = eqb-true (r .care) 0 (e .0) in
+    let v = eqb-true (r .value) 1 (e .1) in
+    clash (b .1) (ne-eqb _ (r .value) (λ q. let z : 0 ≡ 1 = sym (and-zero-r (r .value)) ∙ ap (λ (k : ℕ). lib.Bits.bitAnd (r .value) k) (sym c) ∙ q ∙ v in omega arith)))
 
 pub solid-blanked : (n : ℕ) (m : List Bool) (rows : List Row) → length m ≡ length rows → All (λ r. isRow n r ≡ true) rows → solid (blanked m rows) ≡ picked m rows
 unfolding blanked solid picked
@@ -100,7 +100,7 @@ module _ (counts : ℕ → Bool) (order : List ℕ) (rows : List Row) where
     where
       go : (c b : Bool) → picked (m ++ (b ∷ [])) (xs ++ (r ∷ [])) ≡ cond b (picked m xs ++ (r ∷ [])) (picked m xs)
           → cond c (x ∷ picked (m ++ (b ∷ [])) (xs ++ (r ∷ []))) (picked (m ++ (b ∷ [])) (xs ++ (r ∷ [])))
-            ≡ cond b (cond c (x ∷ picked m xs) (picked m xs) ++ (r ∷ [])) (cond c (x ∷ picked m xs) (picked m xs))
+          ≡ cond b (cond c (x ∷ picked m xs) (picked m xs) ++ (r ∷ [])) (cond c (x ∷ picked m xs) (picked m xs))
       go true true e = ap (λ (y : List Row). x ∷ y) e
       go true false e = ap (λ (y : List Row). x ∷ y) e
       go false true e = e
@@ -124,7 +124,7 @@ module _ (counts : ℕ → Bool) (order : List ℕ) (rows : List Row) where
       let size : length (m ++ (b ∷ [])) ≡ suc k = length-append m (b ∷ []) ∙ add-one k in
       let front : length m ≡ length (take k rows) = sym (length-take-le k rows (omega arith)) in
       rw (size, take-suc rows k d l, picked-more m b (take k rows) r front, append-assoc)
-        (ap (λ (x : List Bool). m ++ x) (sym (judged-step k (picked m (take k rows)) r b (drop-cons rows k d l) e)) ∙ j)
+      (ap (λ (x : List Bool). m ++ x) (sym (judged-step k (picked m (take k rows)) r b (drop-cons rows k d l) e)) ∙ j)
 
   pub judged-all : (m : List Bool) → length m ≡ length rows → Judged m → m ≡ marks counts order rows
   unfolding marksAfter

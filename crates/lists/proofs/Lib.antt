@@ -1,3 +1,4 @@
 pub mod Blanks
 pub mod Next
 pub mod Kept
+pub mod Widens

@@ -16,7 +16,7 @@ use Rattle.rules.proofs.Bits.{bit-zero}
 use Rattle.rules.proofs.Rows.{dashes-row, inSome-append}
 use Rattle.rules.proofs.Orders.{IsOrder}
 use Rattle.rules.proofs.Smallest.{smallest-same, resume}
-use Rattle.lists.specs.Temp.{good}
+use Rattle.search.specs.Question.{good}
 
 -- What is good for more rows.
 pub good-append : (a b : List ℤ) (xs ys : List Row) (s : ℕ) → good a b (xs ++ ys) s ≡ (good a b xs s && not (inSome ys s))
@@ -64,16 +64,16 @@ module _ (n : ℕ) (order : List ℕ) (o : IsOrder n order) (on : ℕ → Bool) 
   unfolding Resumes next
   resumes-first =
       smallest-same n order o (unheld on []) dashes (dashes-row n) (notBelow order 0 (unheld on []))
-        (λ t l h. sym (and-true (unheld on [] t)) ∙ ap (λ (b : Bool). unheld on [] t && not b) (sym (none-below order t)))
+      (λ t l h. sym (and-true (unheld on [] t)) ∙ ap (λ (b : Bool). unheld on [] t && not b) (sym (none-below order t)))
 
   pub resumes-next : (rows : List Row) (r : Row) (s : ℕ) → next order on rows ≡ some s → Resumes order on s (rows ++ (r ∷ []))
   unfolding Resumes next
   resumes-next rows r s e =
       resume n order o (unheld on rows) (unheld on (rows ++ (r ∷ []))) s
-        (λ t h. let a = and-both (on t) (not (inSome (rows ++ (r ∷ [])) t)) h in
-          let b = or-none (inSome rows t) (inSome (r ∷ []) t) (sym (inSome-append rows (r ∷ []) t) ∙ not-yes (inSome (rows ++ (r ∷ [])) t) (a .1)) in
-          and-join (a .0) (yes-not (b .0)))
-        e
+      (λ t h. let a = and-both (on t) (not (inSome (rows ++ (r ∷ [])) t)) h in
+      let b = or-none (inSome rows t) (inSome (r ∷ []) t) (sym (inSome-append rows (r ∷ []) t) ∙ not-yes (inSome (rows ++ (r ∷ [])) t) (a .1)) in
+      and-join (a .0) (yes-not (b .0)))
+      e
 
 -- The search's answers, as the method asks for them.
 module _ (n : ℕ) (order : List ℕ) (o : IsOrder n order) (a : List ℤ) (barred : List Row) where
@@ -82,7 +82,7 @@ module _ (n : ℕ) (order : List ℕ) (o : IsOrder n order) (a : List ℤ) (barr
   unfolding Resumes
   next-found last rows h =
       smallest-same n order o (notBelow order last (good a [] (barred ++ rows))) dashes (dashes-row n) (notBelow order last (unheld (good a [] barred) rows))
-        (λ t l k. ap (λ (b : Bool). b && not (smaller order t last)) (good-append a [] barred rows t))
+      (λ t l k. ap (λ (b : Bool). b && not (smaller order t last)) (good-append a [] barred rows t))
       ∙ sym h
 
   pub collision-found : (b : List ℤ) (others : List Row) → smallest (good a b (others ++ barred)) order dashes ≡ collision order (good a [] barred) (good b [] others)

@@ -1,2 +1,3 @@
-pub mod Temp
+-- How the method keeps its rows.
 pub mod Blank
+pub mod Lent

@@ -10,9 +10,13 @@ ghost use Rattle.rules.specs.Method.{widen};
 ghost use Rattle.sheets.specs.Barred.{rowsOf};
 ghost use Rattle.sheets.specs.Numbers.{numbersOf};
 ghost use Rattle.search.specs.Question.{good, Asked};
-
-use rules::{Place, Row, Setting, Var};
-use search::{find, var_at, Found};
+use rules::Place;
+use rules::Row;
+use rules::Setting;
+use rules::Var;
+use search::Found;
+use search::find;
+use search::var_at;
 
 // The row without the literal of v, if that holds no off setting; else the row.
 fn without_if_free(order: &[u32], row: Row, v: Var, off: &[u8], barred: &[u32]) -> Row

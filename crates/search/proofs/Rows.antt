@@ -9,7 +9,7 @@ use lib.ListN.{length, getD, drop, length-drop}
 use lib.Seq.{drop-cons}
 use borrow.Author.Tests.{eq-eqb, ne-eqb}
 use Rattle.rules.specs.declared.Row.{Row}
-use Rattle.search.specs.Kept.{rowsOf}
+use Rattle.sheets.specs.Barred.{rowsOf}
 use Rattle.search.specs.Question.{covers, coversSome}
 
 -- the k-th kept row

@@ -1,3 +1,2 @@
 -- What a search is asked, and what it answers.
-pub mod Kept
 pub mod Question

@@ -4,9 +4,8 @@ ghost use mathlib.Core.Bool.{true};
 ghost use Rattle.rules.specs.Words.{maxInputs};
 ghost use Rattle.rules.specs.Sheets.{inReach};
 ghost use Rattle.sheets.specs.Numbers.{numbersOf};
-ghost use Rattle.search.specs.Kept.{rowsOf};
+ghost use Rattle.sheets.specs.Barred.{rowsOf};
 ghost use Rattle.search.specs.Question.{coversSome, live};
-
 use rules::Row;
 use sheets::open_sheet;
 

@@ -4,8 +4,8 @@ mod smallest;
 mod step;
 
 use rules::Setting;
-
 pub use smallest::find;
+pub use step::var_at;
 
 pub enum Found {
     At(Setting),

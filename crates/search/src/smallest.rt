@@ -5,13 +5,16 @@ ghost use mathlib.Core.Bool.{true};
 ghost use lib.ListN.{drop};
 ghost use Rattle.rules.specs.Search.{smallest};
 ghost use Rattle.sheets.specs.Numbers.{numbersOf};
-ghost use Rattle.search.specs.Kept.{rowsOf};
+ghost use Rattle.sheets.specs.Barred.{rowsOf};
 ghost use Rattle.search.specs.Question.{good, live, foundAs, Asked, Passed};
-
-use crate::cut::live;
-use crate::step::{at_one, at_zero, var_at};
 use crate::Found;
-use rules::{Place, Row, Setting};
+use crate::cut::live;
+use crate::step::at_one;
+use crate::step::at_zero;
+use crate::step::var_at;
+use rules::Place;
+use rules::Row;
+use rules::Setting;
 use sheets::is_one;
 
 // The smallest good setting of a live row that fixes every variable before the place.

@@ -3,8 +3,9 @@ ghost use mathlib.Core.Path.{_≡_};
 ghost use Prim.Native.Nat.{_≤_, _<_};
 ghost use lib.ListN.{length, getD};
 ghost use Rattle.rules.specs.Words.{maxInputs, atZero, atOne};
-
-use rules::{Place, Row, Var};
+use rules::Place;
+use rules::Row;
+use rules::Var;
 
 // The variable that stands at the place.
 pub fn var_at(order: &[u32], p: Place) -> Var
@@ -22,7 +23,10 @@ pub fn at_zero(row: Row, v: Var) -> Row
 {
     let care = row.care;
     let value = row.value;
-    Row { care: care | v.bit(), value }
+    Row {
+        care: care | v.bit(),
+        value,
+    }
 }
 
 // The row with the variable fixed at 1.
@@ -33,5 +37,8 @@ pub fn at_one(row: Row, v: Var) -> Row
     let bit = v.bit();
     let care = row.care;
     let value = row.value;
-    Row { care: care | bit, value: value | bit }
+    Row {
+        care: care | bit,
+        value: value | bit,
+    }
 }

@@ -4,7 +4,7 @@ use lib.ListN.{drop}
 use borrow.Author.Needs.{needs}
 use Rattle.rules.specs.declared.Row.{Row}
 use Rattle.rules.proofs.Logic.{either}
-use Rattle.search.specs.Kept.{rowsOf}
+use Rattle.sheets.specs.Barred.{rowsOf}
 use Rattle.search.specs.Question.{coversSome}
 use Rattle.search.proofs.Rows.{hit, miss-care, miss-value, missed}
 use Rattle.search.proofs.cut.inside.Statement.{statement}

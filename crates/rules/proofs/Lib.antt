@@ -15,10 +15,13 @@ pub mod Pruning
 pub mod Same
 pub mod Lines
 pub mod PlaText
+pub mod PlaSteps
 pub mod Tokens
 pub mod Sole
 pub mod Judged
 pub mod Refusals
+pub mod Inputs
+pub mod GivenRows
 pub mod ReadForm
 pub mod Listed
 pub mod Demands

@@ -4,3 +4,4 @@ pub mod Covers
 pub mod Liveness
 pub mod Places
 pub mod Steps
+pub mod Queries

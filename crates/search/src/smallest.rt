@@ -37,13 +37,13 @@ pub fn search(order: &&[u32], place: Place, row: Row, a: &&[u8], b: &&[u8], rows
         return search(order, Place(next), row, a, b, rows);
     }
     let low = at_zero(row, v);
+    let high = at_one(row, v);
     if live(a, b, rows, low) {
         let f = search(order, Place(next), low, a, b, rows);
         if let Found::At(s) = f {
             return Found::At(s);
         }
     }
-    let high = at_one(row, v);
     if live(a, b, rows, high) {
         return search(order, Place(next), high, a, b, rows);
     }

@@ -21,10 +21,15 @@ pub fn at_zero(row: Row, v: Var) -> Row
     requires { ⌜ (1 ≤ v .0) × (v .0 ≤ maxInputs) ⌝ }
     ensures { λ r. ⌜ r ≡ atZero (v .0) row ⌝ }
 {
+    let bit = v.bit();
     let care = row.care;
     let value = row.value;
     Row {
+<<<<<<< HEAD
         care: care | v.bit(),
+=======
+        care: care | bit,
+>>>>>>> main
         value,
     }
 }

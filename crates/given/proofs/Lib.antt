@@ -1,0 +1,2 @@
+-- When a given list is in form.
+pub mod InForm

@@ -1,0 +1,2 @@
+-- What the check of a given list looks at.
+pub mod Given

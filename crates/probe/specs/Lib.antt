@@ -1,0 +1,2 @@
+-- What the comparisons are answered.
+pub mod Packed

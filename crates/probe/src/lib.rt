@@ -1,0 +1,3 @@
+// The calls as a program in another language can make them, to compare and to measure. A reply comes back in one number.
+mod pack;
+mod query;

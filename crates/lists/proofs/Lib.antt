@@ -3,3 +3,4 @@ pub mod Next
 pub mod Kept
 pub mod Widens
 pub mod Builds
+pub mod Forms

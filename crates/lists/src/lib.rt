@@ -1,2 +1,2 @@
-// The list: widening, generation and pruning over the one search, and the calls that give a list or its value.
-mod widen;
+// The list: widening, generation and pruning over the one search, and the calls that give a list.
+mod formed;

@@ -25,11 +25,7 @@ pub fn at_zero(row: Row, v: Var) -> Row
     let care = row.care;
     let value = row.value;
     Row {
-<<<<<<< HEAD
-        care: care | v.bit(),
-=======
         care: care | bit,
->>>>>>> main
         value,
     }
 }

@@ -2,7 +2,7 @@
 use mathlib.Core.Path.{_≡_, refl, sym, ap, subst, _∙_}
 use mathlib.Core.Bool.{Bool, true, false, _&&_, _||_}
 use mathlib.Core.List.{List, [], _∷_}
-use Prim.Native.Nat.{ℕ, _+_, _-_, _≤_, _<_}
+use Prim.Native.Nat.{ℕ, zero, suc, _+_, _-_, _≤_, _<_}
 use native.Mathlib.Numerals.{add-one}
 use native.Mathlib.Omega.{arith}
 use lib.Dec.{eqb, leb}
@@ -15,8 +15,9 @@ use Rattle.rules.specs.Words.{maxInputs, withOne, fixes, atZero, atOne}
 use Rattle.rules.specs.Sheets.{variable, inReach}
 use Rattle.rules.proofs.Logic.{test, clash, and-both, and-join, or-left, or-right}
 use Rattle.rules.proofs.Bits.{bit, bit-set}
-use Rattle.rules.proofs.Orders.{has, is-order}
-use Rattle.rules.proofs.Fixed.{own-bit}
+use Rattle.rules.proofs.Orders.{has, Distinct, is-order}
+use Rattle.rules.proofs.Fixed.{own-bit, fixedAt}
+use Rattle.rules.proofs.From.{Free, free-rest}
 use Rattle.search.specs.Question.{Asked, Passed}
 
 -- numbers in reach of fewer variables are in reach of more
@@ -27,6 +28,11 @@ reach-more n m l (z ∷ zs) h =
     let p = and-both (leb (variable z) n) (inReach n zs) h in
     let k = leb-true (variable z) n (p .0) in
     and-join (le-leb (variable z) m (omega arith)) (reach-more n m l zs (p .1))
+
+distinct-drop : (k : ℕ) (vs : List ℕ) → Distinct vs → Distinct (drop k vs)
+distinct-drop zero vs d = d
+distinct-drop (suc k) [] d = d
+distinct-drop (suc k) (v ∷ vs) d = distinct-drop k vs (d .1)
 
 module _ {order : List ℕ} {a b : List ℤ} {rows : List Row} (q : Asked order a b rows) where
   pub reaches-a : inReach maxInputs a ≡ true
@@ -41,6 +47,10 @@ module _ {order : List ℕ} {a b : List ℤ} {rows : List Row} (q : Asked order 
       let n = is-order (length order) order (q .ordered) .named place h in
       let s = q .size in
       (omega (arith, e, n .0), omega (arith, e, n .1))
+
+  -- no variable stands at two places
+  pub distinct-left : (place : ℕ) → Distinct (drop place order)
+  distinct-left place = distinct-drop place order (is-order (length order) order (q .ordered) .distinct)
 
   -- before the first place nothing need be fixed
   pub none-passed : (r : Row) → Passed order 0 r
@@ -73,8 +83,16 @@ module _ (order : List ℕ) (place : ℕ) where
         (λ d. or-left (bit i (r .care)) d)
         (λ d. or-right (eqb (v - 1) i) (p i l (still-passed i d n)))
 
-    pub passed-atZero : (r low : Row) → low ≡ atZero v r → Passed order place r → Passed order (place + 1) low
-    passed-atZero r low e p = subst (Passed order (place + 1)) (sym e) (set-passed r p)
+    fixed-passed : (r : Row) → Passed order place r → (b : Bool) → Passed order (place + 1) (fixedAt b v r)
+    fixed-passed r p true = set-passed r p
+    fixed-passed r p false = set-passed r p
 
-    pub passed-atOne : (r high : Row) → high ≡ atOne v r → Passed order place r → Passed order (place + 1) high
-    passed-atOne r high e p = subst (Passed order (place + 1)) (sym e) (set-passed r p)
+    pub passed-next : (r : Row) → Passed order place r → (b : Bool) (next : Row) → next ≡ fixedAt b v r → Passed order (place + 1) next
+    passed-next r p b next e = subst (Passed order (place + 1)) (sym e) (fixed-passed r p b)
+
+    -- that fixes no other
+    pub free-next : {a b : List ℤ} {rows : List Row} → Asked order a b rows → (r : Row) → Free (drop place order) r
+        → (b : Bool) (next : Row) → next ≡ fixedAt b v r → Free (drop (place + 1) order) next
+    free-next q r f b next e =
+        subst (Free (drop (place + 1) order)) (sym e)
+        (free-rest b v (drop (place + 1) order) r (subst Distinct first-left (distinct-left q place) .0) (subst (λ (vs : List ℕ). Free vs r) first-left f))

@@ -7,8 +7,11 @@ use Prim.Native.Nat.{ℕ, _+_, _-_, _≤_, _<_}
 use lib.ListN.{length, getD, drop, drop-of-length-le}
 use Rattle.rules.specs.declared.Row.{Row}
 use Rattle.rules.specs.declared.Setting.{Setting}
-use Rattle.rules.specs.Words.{fixes, atZero, atOne}
-use Rattle.rules.specs.Search.{orElse, smallest}
+use Rattle.rules.specs.Words.{isOrder, isOne, fixes, dashes, atZero, atOne}
+use Rattle.rules.specs.Search.{orElse, smallest, notBelow}
+use Rattle.rules.proofs.Bits.{bit, bit-zero}
+use Rattle.rules.proofs.Orders.{is-order}
+use Rattle.rules.proofs.From.{Free, smallestFrom, from-is}
 use Rattle.rules.proofs.Reach.{smallest-pass, smallest-try}
 use Rattle.search.specs.declared.Found.{Found}
 use Rattle.search.specs.declared.Found.the-variants.{At, Nothing}
@@ -39,3 +42,43 @@ module _ (P : ℕ → Bool) (order : List ℕ) (place : ℕ) (r : Row) where
       pub with-one : (high : Row) → high ≡ atOne v r → (o : Option ℕ) → smallest P (drop (place + 1) order) low ≡ none
           → o ≡ smallest P (drop (place + 1) order) high → o ≡ smallest P (drop place order) r
       with-one high high-is o z e = sym (tries f ∙ rw (← low-is, ← high-is, z, ← e))
+
+-- the same, from a start on
+module _ (P : ℕ → Bool) (start : ℕ) (order : List ℕ) (place : ℕ) (r : Row) where
+  pub from-end : length order ≤ place → P (r .value) ≡ true → some (r .value) ≡ smallestFrom P start (drop place order) r
+  unfolding smallestFrom
+  from-end h p = rw (drop-of-length-le order h, p)
+
+  module _ (v : ℕ) (h : place < length order) (e : v ≡ getD order place 0) where
+    -- where the start has 1, what is found with 1
+    pub from-one : isOne v start ≡ true → (high : Row) → high ≡ atOne v r → (o : Option ℕ)
+        → o ≡ smallestFrom P start (drop (place + 1) order) high → o ≡ smallestFrom P start (drop place order) r
+    unfolding smallestFrom
+    from-one b high high-is o f = rw (first-left order place v h e, b, ← high-is, ← f)
+
+    -- where it has 0, what is found with 0 is the answer; if nothing is, what is found with 1 and no bound
+    module _ (b : isOne v start ≡ false) (low : Row) (low-is : low ≡ atZero v r) where
+      pub from-zero : (found : Found) (s : Setting) → foundAs found ≡ smallestFrom P start (drop (place + 1) order) low → found ≡ At s
+          → some (s .0) ≡ smallestFrom P start (drop place order) r
+      unfolding smallestFrom
+      from-zero found s z q = rw (first-left order place v h e, b, ← low-is, ← z, q)
+
+      pub from-above : (high : Row) → high ≡ atOne v r → (o : Option ℕ) → smallestFrom P start (drop (place + 1) order) low ≡ none
+          → o ≡ smallest P (drop (place + 1) order) high → o ≡ smallestFrom P start (drop place order) r
+      unfolding smallestFrom
+      from-above high high-is o z f = rw (first-left order place v h e, b, ← low-is, ← high-is, z, ← f)
+
+-- before the first place: the row without literals fixes nothing, and the whole order is left
+abbrev Dashes : Row → Type 0
+Dashes r = (r .care ≡ 0) × (r .value ≡ 0)
+
+is-dashes : (r : Row) → Dashes r → r ≡ dashes
+is-dashes r d = λ i. record { care = d .0 i; value = d .1 i }
+
+pub dashes-free : (vs : List ℕ) (r : Row) → Dashes r → Free vs r
+dashes-free vs r d i h = ap (bit i) (d .0) ∙ bit-zero i
+
+pub from-first : (P : ℕ → Bool) (start : ℕ) (order : List ℕ) → isOrder (length order) order ≡ true → (r : Row) → Dashes r → (o : Option ℕ)
+    → o ≡ smallestFrom P start order r → o ≡ smallest (notBelow order start P) order dashes
+from-first P start order h r d o e =
+    e ∙ ap (smallestFrom P start order) (is-dashes r d) ∙ sym (from-is (length order) order (is-order (length order) order h) P start)

@@ -1,8 +1,9 @@
 use mathlib.Core.Path.{sym, ap, _∙_}
+use mathlib.Core.Bool.{true, false}
 use Rattle.rules.proofs.Logic.{either}
 use Rattle.search.specs.Question.{foundAs}
 use Rattle.search.proofs.Liveness.{live-good, left}
-use Rattle.search.proofs.Places.{reaches-a, reaches-b, is-variable, all-passed, passed-fixed, passed-atZero, passed-atOne}
+use Rattle.search.proofs.Places.{reaches-a, reaches-b, is-variable, all-passed, passed-fixed, passed-next}
 use Rattle.search.proofs.Steps.{at-end, passes, with-zero, with-one}
 use Prim.Native.Nat.{_-_}
 use lib.ListN.{length}
@@ -65,7 +66,7 @@ search-live-requires t c κs = let q = c .before .before .before .before .before
 search-search-requires-2 : (t : ℕ) → search-lts.Need-search-requires-2 (known t) (search-at t) search′.Post
 search-search-requires-2 t c κs =
     let q = c .before .before .before .before .before .before .before .before .pre .1 in
-    (search needs, (q .0, (passed-atZero _ _ _ (c .before .before .before .before .before .before .if1 .left) (c .before .before .before .before .before .var-at .ensures) (c .before .before .before .before .before .before .before .before .args .row) _ (c .before .before .at-zero .ensures) (q .1 .0), sym (c .before .live .ensures) ∙ c .if3 .taken)))
+    (search needs, (q .0, (passed-next _ _ _ (c .before .before .before .before .before .before .if1 .left) (c .before .before .before .before .before .var-at .ensures) (c .before .before .before .before .before .before .before .before .args .row) (q .1 .0) false _ (c .before .before .at-zero .ensures), sym (c .before .live .ensures) ∙ c .if3 .taken)))
 
 search-enum-known-f : (t : ℕ) → search-lts.Need-enum-known-f (known t) (search-at t) search′.Post
 search-enum-known-f t c = search needs
@@ -85,7 +86,7 @@ search-live-requires-2 t c κs = let q = c .before .before .before .before .befo
 search-search-requires-3 : (t : ℕ) → search-lts.Need-search-requires-3 (known t) (search-at t) search′.Post
 search-search-requires-3 t c κs =
     let q = c .before .before .before .before .before .before .before .before .before .before .before .pre .1 in
-    (search needs, (q .0, (passed-atOne _ _ _ (c .before .before .before .before .before .before .before .before .before .if1 .left) (c .before .before .before .before .before .before .before .before .var-at .ensures) (c .before .before .before .before .before .before .before .before .before .before .before .args .row) _ (c .before .before .at-one .ensures) (q .1 .0), sym (c .before .live2 .ensures) ∙ c .if4 .taken)))
+    (search needs, (q .0, (passed-next _ _ _ (c .before .before .before .before .before .before .before .before .before .if1 .left) (c .before .before .before .before .before .before .before .before .var-at .ensures) (c .before .before .before .before .before .before .before .before .before .before .before .args .row) (q .1 .0) true _ (c .before .before .at-one .ensures), sym (c .before .live2 .ensures) ∙ c .if4 .taken)))
 
 search-returns-4 : (t : ℕ) → search-lts.Need-returns-4 (known t) (search-at t) search′.Post
 search-returns-4 t c =

@@ -1,2 +1,3 @@
 // The list: widening, generation and pruning over the one search, and the calls that give a list or its value.
+mod generate;
 mod widen;

@@ -159,8 +159,8 @@ module _ (order : List ℕ) (sheet : List ℤ) (off : ℕ → Bool) (ons k : ℕ
             subst (λ (b : Option ℕ). Ended count (not (found b)) kept) e
             (ended (sym (stopped order on off count (k - count) (answers ∙ e)) ∙ ap rowsAt sum))
 
-        -- A setting after k rows: generation has more.
-        pub some-more : (s : ℕ) → a ≡ some s → k ≤ count → Ended count false kept
-        some-more s e l =
+        -- After k rows the answer says whether there are more.
+        pub all-given : k ≤ count → (whole : Bool) → whole ≡ not (found a) → Ended count whole kept
+        all-given l whole w =
             let full : count ≡ k = omega (arith, g .within) in
-            subst (λ (b : Option ℕ). Ended count (not (found b)) kept) e (ended (ap rowsAt full))
+            subst (λ (b : Bool). Ended count b kept) (sym w) (ended (ap rowsAt full))

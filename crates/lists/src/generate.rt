@@ -1,11 +1,12 @@
 // Generation, a row at a time: the smallest on setting that lies in no row so far is sought from the last one on, widened, and its
 // row kept behind the others.
 ghost use mathlib.Core.Path.{_≡_};
+ghost use mathlib.Core.Bool.{not};
 ghost use mathlib.Core.List.{[], _++_};
 ghost use Prim.Native.Nat.{_+_, _*_, _≤_};
 ghost use lib.ListN.{length, set};
 ghost use Rattle.rules.specs.Words.{dashes};
-ghost use Rattle.rules.specs.Search.{smallest, notBelow};
+ghost use Rattle.rules.specs.Search.{smallest, found, notBelow};
 ghost use Rattle.rules.specs.Method.{maxRows, generated, complete};
 ghost use Rattle.rules.specs.Answers.{over};
 ghost use Rattle.sheets.specs.Barred.{rowsOf, pairsOf};
@@ -45,6 +46,16 @@ fn next_from(order: &[u32], last: Setting, on: &[u8], kept: &[u32], rows: usize)
     find_from(order, last, on, &on[..0], &kept[..2 * rows])
 }
 
+// Nothing was found.
+fn is_none(met: Found) -> bool
+    ensures { λ r. ⌜ r ≡ not (found (foundAs met)) ⌝ }
+{
+    match met {
+        Found::At(_) => false,
+        Found::Nothing => true,
+    }
+}
+
 // Keeps the first k generated rows behind the rows that the on sheet's other clauses bar.
 pub fn generate(
     order: &[u32],
@@ -82,14 +93,6 @@ pub fn generate(
         }
     }
     let met = next_from(order, last, on, kept, ons + count);
-    match met {
-        Found::At(_) => Generated {
-            count,
-            complete: false,
-        },
-        Found::Nothing => Generated {
-            count,
-            complete: true,
-        },
-    }
+    let complete = is_none(met);
+    Generated { count, complete }
 }

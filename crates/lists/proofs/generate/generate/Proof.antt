@@ -5,7 +5,7 @@ use Rattle.sheets.specs.Barred.{rowsOf}
 use Rattle.sheets.specs.Numbers.{numbersOf}
 use Rattle.search.specs.Question.{foundAs}
 use Rattle.lists.specs.Lent.{asks}
-use Rattle.lists.proofs.Generates.{Generating, begin, same-size, has-words, has-room, still-asked, one-more, no-more, some-more}
+use Rattle.lists.proofs.Generates.{Generating, begin, same-size, has-words, has-room, still-asked, one-more, no-more, all-given}
 use Rattle.lists.proofs.generate.generate.Statement.{statement}
 use Rattle.lists.proofs.generate.generate.Tie as tie
 
@@ -25,8 +25,10 @@ add-next-from c = search needs
 next-from-requires : tie.Need-next-from-requires Inv-loop μ-loop
 next-from-requires c κs =
     let l = c .before .before in
-    let s = l .before .before .before .before .before .before in
-    (still-asked _ _ _ _ _ _ (s .pre .0) (s .pre .1 .1 .1) _ _ _ (l .loop .inv), has-words _ _ _ _ _ _ (s .pre .0) (s .pre .1 .1 .1) _ _ _ (l .loop .inv))
+    let s = l .before .before .before .before .before .before in (
+      still-asked _ _ _ _ _ _ (s .pre .0) (s .pre .1 .1 .1) _ _ _ (l .loop .inv),
+      has-words _ _ _ _ _ _ (s .pre .0) (s .pre .1 .1 .1) _ _ _ (l .loop .inv),
+    )
 
 enum-known-met : tie.Need-enum-known-met Inv-loop μ-loop
 enum-known-met c = search needs
@@ -53,7 +55,14 @@ loop-again : tie.Need-loop-again Inv-loop μ-loop
 loop-again c =
     let l = c .before .before .before .before .before .before .before .before .before .before .before in
     let s = l .before .before .before .before .before .before in
-    one-more _ _ _ _ _ _ (s .pre .0) (s .pre .1 .1 .1) _ _ _ (l .loop .inv) _ (c .before .before .before .before .before .before .before .before .next-from .ensures) _ (ap foundAs (c .before .before .before .before .before .before .met .given .1)) (c .before .before .before .before .before .before .before .before .before .before .loop-test .taken) _ (c .before .before .before .before .widen .ensures) _ (c .before .before .put .ensures)
+    let w = c .before .before .before .before in
+    let f = w .before .before .before .before in
+    one-more _ _ _ _ _ _ (s .pre .0) (s .pre .1 .1 .1) _ _ _ (l .loop .inv)
+    _ (f .next-from .ensures)
+    _ (ap foundAs (w .before .before .met .given .1))
+    (f .before .before .loop-test .taken)
+    _ (w .widen .ensures)
+    _ (c .before .before .put .ensures)
 
 enum-told : tie.Need-enum-told Inv-loop μ-loop
 enum-told c = search needs
@@ -68,7 +77,8 @@ returns : tie.Need-returns Inv-loop μ-loop
 returns c =
     let l = c .before .before .before .before .before in
     let s = l .before .before .before .before .before .before in
-    no-more _ _ _ _ _ _ (s .pre .0) (s .pre .1 .1 .1) _ _ _ (l .loop .inv) _ (c .before .before .next-from .ensures) (ap foundAs (c .enum-told .given .1))
+    no-more _ _ _ _ _ _ (s .pre .0) (s .pre .1 .1 .1) _ _ _ (l .loop .inv)
+    _ (c .before .before .next-from .ensures) (ap foundAs (c .enum-told .given .1))
 
 add-next-from-2 : tie.Need-add-next-from-2 Inv-loop μ-loop
 add-next-from-2 c = search needs
@@ -76,38 +86,28 @@ add-next-from-2 c = search needs
 next-from-requires-2 : tie.Need-next-from-requires-2 Inv-loop μ-loop
 next-from-requires-2 c κs =
     let l = c .before .before in
-    let s = l .before .before .before .before .before .before in
-    (still-asked _ _ _ _ _ _ (s .pre .0) (s .pre .1 .1 .1) _ _ _ (l .loop .inv), has-words _ _ _ _ _ _ (s .pre .0) (s .pre .1 .1 .1) _ _ _ (l .loop .inv))
+    let s = l .before .before .before .before .before .before in (
+      still-asked _ _ _ _ _ _ (s .pre .0) (s .pre .1 .1 .1) _ _ _ (l .loop .inv),
+      has-words _ _ _ _ _ _ (s .pre .0) (s .pre .1 .1 .1) _ _ _ (l .loop .inv),
+    )
 
-enum-told-2 : tie.Need-enum-told-2 Inv-loop μ-loop
-enum-told-2 c = search needs
-
-enum-told-3 : tie.Need-enum-told-3 Inv-loop μ-loop
-enum-told-3 c = search needs
+is-none-requires : tie.Need-is-none-requires Inv-loop μ-loop
+is-none-requires c κs = tt
 
 same-length-2 : tie.Need-same-length-2 Inv-loop μ-loop
 same-length-2 c =
-    let l = c .before .before .before .before .before in
+    let l = c .before .before .before .before in
     let s = l .before .before .before .before .before .before in
     same-size _ _ _ _ _ _ (s .pre .0) (s .pre .1 .1 .1) _ _ _ (l .loop .inv)
 
 returns-2 : tie.Need-returns-2 Inv-loop μ-loop
 returns-2 c =
-    let l = c .before .before .before .before .before in
+    let l = c .before .before .before .before in
     let s = l .before .before .before .before .before .before in
-    some-more _ _ _ _ _ _ (s .pre .0) (s .pre .1 .1 .1) _ _ _ (l .loop .inv) _ (c .before .before .next-from2 .ensures) _ (ap foundAs (c .enum-told2 .given .1)) (c .before .before .before .before .loop-test .left)
-
-same-length-3 : tie.Need-same-length-3 Inv-loop μ-loop
-same-length-3 c =
-    let l = c .before .before .before .before .before in
-    let s = l .before .before .before .before .before .before in
-    same-size _ _ _ _ _ _ (s .pre .0) (s .pre .1 .1 .1) _ _ _ (l .loop .inv)
-
-returns-3 : tie.Need-returns-3 Inv-loop μ-loop
-returns-3 c =
-    let l = c .before .before .before .before .before in
-    let s = l .before .before .before .before .before .before in
-    no-more _ _ _ _ _ _ (s .pre .0) (s .pre .1 .1 .1) _ _ _ (l .loop .inv) _ (c .before .before .next-from2 .ensures) (ap foundAs (c .enum-told3 .given .1))
+    all-given _ _ _ _ _ _ (s .pre .0) (s .pre .1 .1 .1) _ _ _ (l .loop .inv)
+    _ (c .before .next-from2 .ensures)
+    (c .before .before .before .loop-test .left)
+    _ (c .is-none .ensures)
 
 pub generate-spec : {M : Type 1} → statement M
 generate-spec =
@@ -130,9 +130,6 @@ generate-spec =
     returns
     add-next-from-2
     next-from-requires-2
-    enum-told-2
-    enum-told-3
+    is-none-requires
     same-length-2
-    returns-2
-    same-length-3
-    returns-3)
+    returns-2)

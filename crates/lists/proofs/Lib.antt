@@ -1,6 +1,8 @@
+-- Laws behind the list, by subject.
 pub mod Blanks
 pub mod Next
 pub mod Kept
 pub mod Widens
+pub mod Generates
 pub mod Builds
 pub mod Forms

@@ -1,7 +1,7 @@
 -- One literal tried, and one place after another.
-use mathlib.Core.Path.{_≡_, refl, sym, ap, _∙_}
-use mathlib.Core.Bool.{Bool, true, false, cond}
-use mathlib.Core.List.{List, [], _∷_}
+use mathlib.Core.Path.{_≡_}
+use mathlib.Core.Bool.{Bool, cond}
+use mathlib.Core.List.{List}
 use Prim.Native.Nat.{ℕ, _+_, _≤_, _<_}
 use native.Mathlib.Numerals.{add-one}
 use lib.ListN.{length, getD, drop, drop-of-length-le}
@@ -9,7 +9,7 @@ use lib.Seq.{drop-cons}
 use Rattle.rules.specs.declared.Row.{Row}
 use Rattle.rules.specs.declared.Setting.{Setting}
 use Rattle.rules.specs.Words.{without}
-use Rattle.rules.specs.Search.{smallest, holdsSome, found}
+use Rattle.rules.specs.Search.{smallest, holdsSome}
 use Rattle.rules.specs.Method.{widenAt}
 use Rattle.search.specs.Question.{foundAs}
 use Rattle.search.specs.declared.Found.{Found}

@@ -18,6 +18,9 @@ pub enum Found {
 pub use bounded::find_from;
 pub use smallest::find;
 
+// The variable at a place.
+pub use step::var_at;
+
 // The call.
 pub use calls::query;
 

@@ -3,8 +3,6 @@ use Rattle.rules.specs.Calls.{wordsOf}
 use Rattle.lists.proofs.Widens.{literal-stays, literal-goes}
 use Rattle.lists.proofs.widen.without_if_free.Statement.{statement}
 use Rattle.lists.proofs.widen.without_if_free.Tie as tie
-use Rattle.lists.proofs.widen.without_if_free.Reads as reads
-use Rattle.lists.proofs.widen.without_if_free.Lts as lts
 
 without-requires : tie.Need-without-requires
 without-requires c κs = search needs
@@ -14,7 +12,7 @@ slice-aggregate-find c = search needs
 
 find-requires : tie.Need-find-requires
 unfolding wordsOf
-find-requires c κs = c .before .before .pre .0
+find-requires c κs = c .before .before .before .before .before .pre .0
 
 enum-told : tie.Need-enum-told
 enum-told c = search needs
@@ -24,11 +22,15 @@ enum-told-2 c = search needs
 
 returns : tie.Need-returns
 unfolding wordsOf
-returns c = rw (← c .before .before .before .before .without .ensures) (literal-stays _ _ _ _ _ (c .before .before .find .ensures) _ (c .before .enum-told .given .1))
+returns c =
+    rw (← c .before .before .before .before .without .ensures)
+    (literal-stays _ _ _ _ _ (c .before .before .find .ensures) _ (c .enum-told .given .1))
 
 returns-2 : tie.Need-returns-2
 unfolding wordsOf
-returns-2 c = rw (← c .before .before .before .before .without .ensures) (literal-goes _ _ _ _ _ (c .before .before .find .ensures) (c .before .enum-told-2 .given .1))
+returns-2 c =
+    rw (← c .before .before .before .before .without .ensures)
+    (literal-goes _ _ _ _ _ (c .before .before .find .ensures) (c .enum-told2 .given .1))
 
 pub without-if-free-spec : {M : Type 1} → statement M
 without-if-free-spec =

@@ -1,4 +1,6 @@
 pub mod Blanks
 pub mod Next
 pub mod Kept
+pub mod Judges
+pub mod Prunes
 pub mod Widens

@@ -106,6 +106,16 @@ module _ (counts : ℕ → Bool) (order : List ℕ) (rows : List Row) where
       go false true e = e
       go false false e = e
 
+  -- They hold what the rows with the next one blanked hold.
+  pub others-hold : (m : List Bool) → length m < length rows → (s : ℕ) → inSome (set (blanked m rows) (length m) blank) s ≡ inSome (others m) s
+  others-hold m l s =
+      let k : ℕ = length m in
+      let size : length (m ++ (false ∷ [])) ≡ suc k = length-append m (false ∷ []) ∙ add-one k in
+      let front : length m ≡ length (take k rows) = sym (length-take-le k rows (omega arith)) in
+      ap (λ (x : List Row). inSome x s) (sym (blanked-more m false rows l))
+      ∙ blanked-holds (m ++ (false ∷ [])) rows (rw size l) s
+      ∙ (rw (size, take-suc rows k blank l, picked-more m false (take k rows) (getD rows k blank) front) refl)
+
   pub judged-none : Judged []
   judged-none = unfold picked in refl
 

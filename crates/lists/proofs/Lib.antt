@@ -2,6 +2,8 @@
 pub mod Blanks
 pub mod Next
 pub mod Kept
+pub mod Judges
+pub mod Prunes
 pub mod Widens
 pub mod Generates
 pub mod Builds

@@ -3,6 +3,7 @@ use mathlib.Core.Bool.{Bool, true, false, cond, _&&_}
 use mathlib.Core.List.{List, [], _∷_}
 use Prim.Native.Nat.{ℕ}
 use lib.Dec.{eqb}
+use lib.ListN.{getD, set}
 use Rattle.rules.specs.declared.Row.{Row}
 
 abbrev pub blank : Row
@@ -16,6 +17,10 @@ unfoldable pub blanked : List Bool → List Row → List Row
 blanked [] rows = rows
 blanked (stays ∷ more) [] = []
 blanked (stays ∷ more) (r ∷ rows) = cond stays r blank ∷ blanked more rows
+
+-- the row at a place stays as it is, or is blanked
+abbrev pub judgedAt : Bool → List Row → ℕ → List Row
+judgedAt stays rows at = set rows at (cond stays (getD rows at blank) blank)
 
 -- the rows that are no blanks
 unfoldable pub solid : List Row → List Row

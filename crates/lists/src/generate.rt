@@ -13,8 +13,8 @@ ghost use Rattle.sheets.specs.Barred.{rowsOf, pairsOf};
 ghost use Rattle.sheets.specs.Numbers.{numbersOf};
 ghost use Rattle.search.specs.Question.{foundAs, Asked};
 ghost use Rattle.lists.specs.Lent.{asks, firstRows};
+use crate::put::put;
 use crate::widen::widen;
-use rules::Row;
 use rules::Setting;
 use search::Found;
 use search::find_from;
@@ -23,18 +23,6 @@ use search::find_from;
 pub struct Generated {
     pub count: usize,
     pub complete: bool,
-}
-
-// Writes the row as the i-th of the run.
-fn put(kept: &mut [u32], i: usize, row: Row)
-    requires { ⌜ 2 * i + 2 ≤ length (now kept) ⌝ }
-    ensures { λ _. ⌜ now (kept .exit) ≡ set (set (now (kept .entry)) (2 * i) (row .care)) (2 * i + 1) (row .value) ⌝ }
-{
-    let care = row.care;
-    let value = row.value;
-    let at = 2 * i;
-    kept[at] = care;
-    kept[at + 1] = value;
 }
 
 // The smallest setting of the sheet, not below the last, that lies in none of the first rows of the run.

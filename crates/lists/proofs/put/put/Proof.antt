@@ -1,8 +1,8 @@
 use native.Mathlib.Omega.{arith}
 use lib.ListN.{length-set}
 use borrow.Author.Needs.{needs}
-use Rattle.lists.proofs.generate.put.Statement.{statement}
-use Rattle.lists.proofs.generate.put.Tie as tie
+use Rattle.lists.proofs.put.put.Statement.{statement}
+use Rattle.lists.proofs.put.put.Tie as tie
 
 mul-at : tie.Need-mul-at
 mul-at c = search needs

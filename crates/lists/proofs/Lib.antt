@@ -6,5 +6,6 @@ pub mod Judges
 pub mod Prunes
 pub mod Widens
 pub mod Generates
+pub mod Standing
 pub mod Builds
 pub mod Forms

@@ -2,3 +2,4 @@
 pub mod Blank
 pub mod Lent
 pub mod Formed
+pub mod Built

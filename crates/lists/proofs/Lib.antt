@@ -3,4 +3,5 @@ pub mod Next
 pub mod Kept
 pub mod Judges
 pub mod Prunes
+pub mod Copies
 pub mod Widens

@@ -1,8 +1,8 @@
 -- Pruning by blanks leaves what pruning by marks picks.
-use mathlib.Core.Path.{_≡_, refl, sym, ap, ap₂, _∙_, subst}
-use mathlib.Core.Bool.{Bool, true, false, not, cond, _&&_, _||_}
+use mathlib.Core.Path.{_≡_, refl, sym, ap, _∙_}
+use mathlib.Core.Bool.{Bool, true, false, not, cond, _||_}
 use mathlib.Core.List.{List, [], _∷_, _++_, append-assoc, append-nil}
-use Prim.Native.Nat.{ℕ, zero, suc, _+_, _*_, _≤_, _<_, _^_}
+use Prim.Native.Nat.{ℕ, suc, _+_, _≤_, _<_}
 use native.Mathlib.Nat.{le-of-suc-le-suc, not-suc-le-zero}
 use native.Mathlib.Numerals.{add-one}
 use native.Mathlib.Omega.{arith}
@@ -10,14 +10,12 @@ use lib.Bits.{and-zero-r}
 use lib.Dec.{eqb}
 use lib.ListN.{length, take, drop, getD, set, length-append, drop-of-length-le}
 use lib.Seq.{drop-cons, take-suc, length-take-le}
-use borrow.Author.Tests.{eqb-true, eqb-false, ne-eqb}
+use borrow.Author.Tests.{eqb-true, ne-eqb}
 use Rattle.rules.specs.declared.Row.{Row}
 use Rattle.rules.specs.Words.{holds, isRow, fits, inSome, one}
-use Rattle.rules.specs.Search.{holdsSome}
-use Rattle.rules.specs.Method.{needed, marksAfter, marks, picked, pruned}
+use Rattle.rules.specs.Method.{needed, marksAfter, marks, picked}
 use Rattle.rules.specs.Calls.{kept}
-use Rattle.rules.proofs.Logic.{test, clash, and-both, or-none, fails}
-use Rattle.rules.proofs.Rows.{inSome-append}
+use Rattle.rules.proofs.Logic.{clash, and-both, fails}
 use Rattle.rules.proofs.Generation.{All}
 use Rattle.lists.specs.Blank.{blank, isBlank, blanked, solid}
 
@@ -68,6 +66,11 @@ row-solid n r w =
     let c = eqb-true (r .care) 0 (e .0) in
     let v = eqb-true (r .value) 1 (e .1) in
     clash (b .1) (ne-eqb _ (r .value) (λ q. let z : 0 ≡ 1 = sym (and-zero-r (r .value)) ∙ ap (λ (k : ℕ). lib.Bits.bitAnd (r .value) k) (sym c) ∙ q ∙ v in omega arith)))
+
+pub solid-all : (n : ℕ) (rows : List Row) → All (λ r. isRow n r ≡ true) rows → solid rows ≡ rows
+unfolding solid
+solid-all n [] w = refl
+solid-all n (r ∷ rows) w = rw (row-solid n r (w .0)) (ap (λ (x : List Row). r ∷ x) (solid-all n rows (w .1)))
 
 pub solid-blanked : (n : ℕ) (m : List Bool) (rows : List Row) → length m ≡ length rows → All (λ r. isRow n r ≡ true) rows → solid (blanked m rows) ≡ picked m rows
 unfolding blanked solid picked

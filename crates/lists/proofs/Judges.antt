@@ -87,7 +87,7 @@ module _ (k : ℕ) (ws : List ℕ) (room : 2 * k ≤ length ws) where
         size = q .size;
         reach-a = q .reach-a;
         reach-b = q .reach-b;
-        cares = ap (caresWithin (length order)) others-are ∙ blank-within (length order) rows at (q .cares)
+        cares = ap (caresWithin (length order)) others-are ∙ blank-within (length order) rows at (q .cares);
       }
 
       module _ (order : List ℕ) (a : List ℤ) (r : Row) (c : r .care ≡ getD ws (2 * at) 0) (v : r .value ≡ getD ws (2 * at + 1) 0)
@@ -101,10 +101,10 @@ module _ (k : ℕ) (ws : List ℕ) (room : 2 * k ≤ length ws) where
         row-stays s e new n = (
           ap (λ (x : Found). found (foundAs x)) (sym e) ∙ answered,
           n
-          ∙ ap (λ (x : List ℕ). set (set x (2 * at) (r .care)) (2 * at + 1) (r .value)) (is ∙ put-row blank)
-          ∙ written (set rows at blank) (drop (2 * k) ws) at r (rw (length-set rows at blank) here)
-          ∙ ap (λ (x : List Row). pairsOf x ++ drop (2 * k) ws) (set-set rows at blank r ∙ ap (set rows at) (row-at r c v))
-          ∙ sym (over-rows (judgedAt true rows at) k ws (set-size (getD rows at blank))),
+              ∙ ap (λ (x : List ℕ). set (set x (2 * at) (r .care)) (2 * at + 1) (r .value)) (is ∙ put-row blank)
+              ∙ written (set rows at blank) (drop (2 * k) ws) at r (rw (length-set rows at blank) here)
+              ∙ ap (λ (x : List Row). pairsOf x ++ drop (2 * k) ws) (set-set rows at blank r ∙ ap (set rows at) (row-at r c v))
+              ∙ sym (over-rows (judgedAt true rows at) k ws (set-size (getD rows at blank))),
         )
 
         pub row-goes : f ≡ Found.Nothing

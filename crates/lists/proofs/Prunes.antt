@@ -92,10 +92,10 @@ module _ (old : List ℕ) (ons count : ℕ) (room : 2 * (ons + count) ≤ length
       let rest : List ℕ = drop (2 * (ons + count)) old in
       let split = rows-split (ons + count) old room in
       let words : old ≡ pairsOf (take ons rows) ++ (pairsOf (drop ons rows) ++ rest) =
-            sym (split .0)
-            ∙ ap (λ (x : List Row). pairsOf x ++ rest) (sym (take-append-drop ons rows))
-            ∙ ap (λ (x : List ℕ). x ++ rest) (pairs-append (take ons rows) (drop ons rows))
-            ∙ append-assoc (pairsOf (take ons rows)) (pairsOf (drop ons rows)) rest in
+      sym (split .0)
+      ∙ ap (λ (x : List Row). pairsOf x ++ rest) (sym (take-append-drop ons rows))
+      ∙ ap (λ (x : List ℕ). x ++ rest) (pairs-append (take ons rows) (drop ons rows))
+      ∙ append-assoc (pairsOf (take ons rows)) (pairsOf (drop ons rows)) rest in
       let front : length (take ons rows) ≡ ons = length-take-le ons rows (let e = split .1 in omega arith) in
       ap (λ (x : List Row). x ++ drop ons rows) (ap (firstRows ons) words ∙ first-rows (take ons rows) (pairsOf (drop ons rows) ++ rest) ons front)
       ∙ take-append-drop ons rows
@@ -137,7 +137,7 @@ module _ (order counting old : List ℕ) (ons count : ℕ) (room : 2 * (ons + co
         ∙ over-rows (firstRows (ons + count) old) (ons + count) old (rows-split (ons + count) old room .1)
         ∙ rows-split (ons + count) old room .0);
     count-is = refl;
-    judged = judged-none (asks counting (firstRows ons old)) order (behind ons count old)
+    judged = judged-none (asks counting (firstRows ons old)) order (behind ons count old);
   }
 
   module _ (words : List ℕ) (stay i : ℕ) (p : Pruning order counting old ons count words stay i) where
@@ -162,7 +162,7 @@ module _ (order counting old : List ℕ) (ons count : ℕ) (room : 2 * (ons + co
       reach-a = q .reach-a;
       reach-b = q .reach-b;
       cares = ap (caresWithin (length order)) now-rows
-          ∙ blanked-within (length order) (firstRows ons old) (p .marked) (behind ons count old) (ap (caresWithin (length order)) (before-split old ons count room) ∙ q .cares)
+          ∙ blanked-within (length order) (firstRows ons old) (p .marked) (behind ons count old) (ap (caresWithin (length order)) (before-split old ons count room) ∙ q .cares);
     }
 
     pub count-within : stay ≤ i
@@ -188,7 +188,7 @@ module _ (order counting old : List ℕ) (ons count : ℕ) (room : 2 * (ons + co
               ∙ over-again (now (marks ++ (b ∷ []))) (now marks) (ons + count) old (now-count (marks ++ (b ∷ []))) (now-count marks);
           count-is = m ∙ ap (λ (k : ℕ). k + one b) (p .count-is) ∙ sym (kept-more marks b);
           judged = judged-more counts order rows marks b blank here (p .judged)
-              (sym (e ∙ ap₂ (stays order (numbersOf counting)) now-rows place ∙ row-needed order (numbersOf counting) first rows marks here))
+              (sym (e ∙ ap₂ (stays order (numbersOf counting)) now-rows place ∙ row-needed order (numbersOf counting) first rows marks here));
         }
 
     pub finished : count ≤ i

@@ -4,4 +4,5 @@ mod formed;
 mod generate;
 mod prune;
 mod put;
+mod solid;
 mod widen;

@@ -1,10 +1,15 @@
 // The whole list of what is lent, one method for both ways of lending a sheet: in place, or as the rows that its clauses bar.
 ghost use mathlib.Core.Path.{_≡_};
-ghost use mathlib.Core.List.{[]};
-ghost use Rattle.rules.specs.Method.{listOf};
-ghost use Rattle.rules.specs.Answers.{replyOf};
-ghost use Rattle.rules.specs.Calls.{wholeFor, listValues};
-ghost use Rattle.lists.specs.Lent.{asks, firstRows};
+ghost use mathlib.Core.List.{[], _++_};
+ghost use Prim.Native.Nat.{_+_, _*_, _≤_};
+ghost use lib.ListN.{length};
+ghost use Rattle.rules.specs.Method.{all, listOf, marks};
+ghost use Rattle.rules.specs.Answers.{over, replyOf};
+ghost use Rattle.rules.specs.Calls.{kept, listValues, wholeFor};
+ghost use Rattle.sheets.specs.Barred.{pairsOf};
+ghost use Rattle.search.specs.Question.{Asked};
+ghost use Rattle.lists.specs.Blank.{blanked};
+ghost use Rattle.lists.specs.Lent.{asks, behind, firstRows};
 ghost use Rattle.lists.specs.Built.{Lent, builtReply, Stands};
 
 use crate::generate::generate;
@@ -18,6 +23,18 @@ pub enum Built {
     Refused(Refusal),
 }
 
+// Prunes the generated rows behind the first ones, and gives how many stay. Every setting counts: no sheet is asked.
+fn prune_behind(order: &[u32], none: &[u8], rows: &mut [u32], ons: usize, count: usize) -> usize
+    requires { ⌜ now none ≡ [] ⌝ }
+    requires { ⌜ Asked (now order) [] [] (behind ons count (now rows)) ⌝ }
+    requires { ⌜ 2 * (ons + count) ≤ length (now rows) ⌝ }
+    ensures { λ _. ⌜ now (rows .exit) ≡ over (pairsOf (firstRows ons (now (rows .entry)) ++ blanked (marks all (now (order .entry)) (behind ons count (now (rows .entry)))) (behind ons count (now (rows .entry))))) (now (rows .entry)) ⌝ }
+    ensures { λ r. ⌜ r ≡ kept (marks all (now (order .entry)) (behind ons count (now (rows .entry)))) ⌝ }
+{
+    prune(order, none, &mut rows[2 * ons..], 0, count)
+}
+
+// The count of the list's rows, which stand among the generated ones, or the refusal.
 pub fn build(
     order: &[u32],
     on: &[u8],
@@ -41,7 +58,7 @@ pub fn build(
     if !made.complete {
         return Built::Refused(Refusal::TooManyRows);
     }
-    let count = prune(order, &on[..0], &mut kept[2 * ons..], 0, generated);
+    let count = prune_behind(order, &on[..0], kept, ons, generated);
     if room < count {
         return Built::Refused(Refusal::Room);
     }

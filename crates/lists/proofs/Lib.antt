@@ -8,5 +8,6 @@ pub mod Copies
 pub mod Widens
 pub mod Generates
 pub mod Standing
+pub mod Building
 pub mod Builds
 pub mod Forms

@@ -1,5 +1,5 @@
 -- From the input's form to the method, and from the method's answer to the call's.
-use mathlib.Core.Path.{_≡_, refl, sym, ap, _∙_}
+use mathlib.Core.Path.{_≡_, refl, sym, ap, _∙_, subst}
 use mathlib.Core.Bool.{Bool, true, false, not, _&&_}
 use mathlib.Core.List.{List, [], _∷_, _++_}
 use mathlib.Core.Option.{Option, none, some}
@@ -13,8 +13,8 @@ use Rattle.rules.specs.Words.{isInputs, isOrder, inSome}
 use Rattle.rules.specs.Sheets.{satisfies, everyClause, wellFormed}
 use Rattle.rules.specs.Search.{found}
 use Rattle.rules.specs.Method.{maxRows, generated, complete, listOf}
-use Rattle.rules.specs.Answers.{Reply, Check, judge, Verdict, given, refused, refusal}
-use Rattle.rules.specs.Calls.{lent, collision, listed, wholeFor, whole, Partial, partialFor, partial}
+use Rattle.rules.specs.Answers.{Reply, Check, judge, Verdict, given, refused, refusal, answered, replyOf}
+use Rattle.rules.specs.Calls.{lent, collision, listed, listValues, wholeFor, whole, Partial, partialFor, partial}
 use Rattle.rules.proofs.Orders.{IsOrder, is-order}
 use Rattle.rules.proofs.Same.{Same, whole-same, partial-same}
 use Rattle.sheets.specs.Barred.{barred}
@@ -79,3 +79,20 @@ module _ (order : List ℕ) (on off : ℕ → Bool) where
       → partialFor [] order on off k room ≡ given (record { rows = generated order on off k; isAll = complete order on (generated order on off k) })
   unfolding partialFor judge
   gives-part k room e h = rw (e, le-ltb _ _ h)
+
+-- The replies of a list that is built.
+module _ (order : List ℕ) (on off : ℕ → Bool) (room : ℕ) where
+  pub reply-collides : (s : ℕ) → collision order on off ≡ some s → record { number = 6; values = s ∷ [] } ≡ replyOf listValues (wholeFor [] order on off room)
+  reply-collides s e = ap (replyOf listValues) (sym (collides order on off room s e))
+
+  pub reply-too-many : collision order on off ≡ none → complete order on (generated order on off maxRows) ≡ false → refusal 7 ≡ replyOf listValues (wholeFor [] order on off room)
+  reply-too-many e c = ap (replyOf listValues) (sym (too-many order on off room e c))
+
+  pub reply-no-room : collision order on off ≡ none → complete order on (generated order on off maxRows) ≡ true
+      → (count : ℕ) → count ≡ length (listOf order on off) → room < count → refusal 15 ≡ replyOf listValues (wholeFor [] order on off room)
+  reply-no-room e c count q h = ap (replyOf listValues) (sym (no-room order on off room e c (subst (λ (n : ℕ). room < n) q h)))
+
+  pub reply-gives : collision order on off ≡ none → complete order on (generated order on off maxRows) ≡ true
+      → (count : ℕ) → count ≡ length (listOf order on off) → count ≤ room → answered (count ∷ []) ≡ replyOf listValues (wholeFor [] order on off room)
+  reply-gives e c count q h =
+      ap (λ (n : ℕ). answered (n ∷ [])) q ∙ ap (replyOf listValues) (sym (gives order on off room e c (subst (λ (n : ℕ). n ≤ room) q h)))

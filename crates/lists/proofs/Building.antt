@@ -55,8 +55,8 @@ module _ (order on off both : List ℕ) (offs : ℕ) (old : List ℕ) (ons : ℕ
       → collision order onAt offAt ≡ met
   met-is r e met h =
       sym (h ∙ ap (smallest (good (numbersOf on) (numbersOf off) (rowsOf both)) order) (is-dashes r e)
-        ∙ ap (λ (x : List Row). smallest (good (numbersOf on) (numbersOf off) x) order dashes) (lent .joined)
-        ∙ collision-found (length order) order isOrder (numbersOf on) (firstRows ons old) (numbersOf off) (firstRows offs both))
+      ∙ ap (λ (x : List Row). smallest (good (numbersOf on) (numbersOf off) x) order dashes) (lent .joined)
+      ∙ collision-found (length order) order isOrder (numbersOf on) (firstRows ons old) (numbersOf off) (firstRows offs both))
 
   first-size : length (firstRows ons old) ≡ ons
   first-size = rows-split ons old (let h = lent .room in omega arith) .1
@@ -78,7 +78,7 @@ module _ (order on off both : List ℕ) (offs : ℕ) (old : List ℕ) (ons : ℕ
     words-size =
         ap length stand
         ∙ over-length (pairsOf (firstRows ons old ++ rows)) old
-            (let a = pairs-length (firstRows ons old ++ rows) in let b = total in let c = few in let d = lent .room in omega arith)
+        (let a = pairs-length (firstRows ons old ++ rows) in let b = total in let c = few in let d = lent .room in omega arith)
 
     pub made-room : 2 * (ons + count) ≤ length words
     made-room = let a = words-size in let b = few in let c = lent .room in omega arith
@@ -90,7 +90,12 @@ module _ (order on off both : List ℕ) (offs : ℕ) (old : List ℕ) (ons : ℕ
     unfolding inReach
     made-asked =
         subst (Asked order [] []) (sym made-behind) (record {
-          ordered = lent .on-asked .ordered; size = lent .on-asked .size; reach-a = refl; reach-b = refl; cares = cares-of-rows (length order) rows all-rows })
+          ordered = lent .on-asked .ordered;
+          size = lent .on-asked .size;
+          reach-a = refl;
+          reach-b = refl;
+          cares = cares-of-rows (length order) rows all-rows;
+        })
 
     -- and what stays of it
     module _ (stay : ℕ) (left : List ℕ) (staying : stay ≡ kept (marks all order (behind ons count words)))
@@ -120,7 +125,8 @@ module _ (order on off both : List ℕ) (offs : ℕ) (old : List ℕ) (ons : ℕ
       unfolding listOf new
       list-stands =
           let s : length left ≡ length words = ap length blanks
-              ∙ over-length (pairsOf (firstRows ons words ++ new)) words (let a = pairs-length (firstRows ons words ++ new) in let b = both-size in let c = made-room in omega arith) in
-          ((let a = made-room in omega arith),
-           ap solid (ap (behind ons count) left-laid ∙ behind-rows (firstRows ons words) new (drop (2 * (ons + count)) words) ons count front-size new-size)
-           ∙ ap (λ (x : List Row). solid (blanked (marks all order x) x)) made-behind ∙ solid-list (length order) order rows all-rows)
+          ∙ over-length (pairsOf (firstRows ons words ++ new)) words (let a = pairs-length (firstRows ons words ++ new) in let b = both-size in let c = made-room in omega arith) in (
+            (let a = made-room in omega arith),
+            ap solid (ap (behind ons count) left-laid ∙ behind-rows (firstRows ons words) new (drop (2 * (ons + count)) words) ons count front-size new-size)
+                ∙ ap (λ (x : List Row). solid (blanked (marks all order x) x)) made-behind ∙ solid-list (length order) order rows all-rows,
+          )

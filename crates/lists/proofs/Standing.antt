@@ -107,7 +107,7 @@ module _ (ws : List ℕ) (m k : ℕ) (room : 2 * (m + k) ≤ length ws) where
   -- what pruning leaves in the part, where every setting counts
   pub part-left : (order none : List ℕ) → none ≡ []
       → (firstRows 0 part ++ blanked (staying order none 0 k part) (behind 0 k part) ≡ blanked (marks all order (behind m k ws)) (behind m k ws))
-        × (staying order none 0 k part ≡ marks all order (behind m k ws))
+      × (staying order none 0 k part ≡ marks all order (behind m k ws))
   unfolding rowsOf wordsOf
   part-left order none e =
       let q : good (numbersOf none) [] [] ≡ all = ap (λ (x : List ℕ). good (numbersOf x) [] []) e ∙ all-count in
@@ -124,8 +124,8 @@ module _ (ws : List ℕ) (m k : ℕ) (room : 2 * (m + k) ≤ length ws) where
       let front : take (2 * m) ws ≡ pairsOf first = ap (take (2 * m)) words ∙ front-rows first (behind m k ws) rest m size in
       let old : 2 * k ≡ 2 * length (behind m k ws) = ap (λ (n : ℕ). 2 * n) (sym (behind-size ws m k room)) in
       let mid : after ≡ pairsOf new ++ rest =
-          e ∙ over-rows new k part l ∙ ap (λ (x : List ℕ). pairsOf new ++ drop (2 * k) x) part-is
-          ∙ ap (λ (x : List ℕ). pairsOf new ++ x) (drop-at (pairsOf (behind m k ws)) rest (2 * k) (pairs-length (behind m k ws) ∙ sym old)) in
+      e ∙ over-rows new k part l ∙ ap (λ (x : List ℕ). pairsOf new ++ drop (2 * k) x) part-is
+      ∙ ap (λ (x : List ℕ). pairsOf new ++ x) (drop-at (pairsOf (behind m k ws)) rest (2 * k) (pairs-length (behind m k ws) ∙ sym old)) in
       let none : drop (length ws - 2 * m) (drop (2 * m) ws) ≡ [] = drop-of-length-le (drop (2 * m) ws) {i = length ws - 2 * m} (let f = length-drop (2 * m) ws in omega arith) in
       let both : length (first ++ new) ≡ m + k = length-append first new ∙ (let q : length first + length new ≡ m + k = omega arith in q) in
       ap (λ (x : List ℕ). x ++ (after ++ drop (length ws - 2 * m) (drop (2 * m) ws))) front
@@ -139,7 +139,7 @@ module _ (ws : List ℕ) (m k : ℕ) (room : 2 * (m + k) ≤ length ws) where
       → putMid (2 * m) (length ws - 2 * m) ws after ≡ over (pairsOf (firstRows m ws ++ blanked (marks all order (behind m k ws)) (behind m k ws))) ws
   pruned-back order none e after h =
       put-back (blanked (marks all order (behind m k ws)) (behind m k ws)) after (blanked-length (marks all order (behind m k ws)) (behind m k ws) ∙ behind-size ws m k room)
-        (h ∙ ap (λ (x : List Row). over (pairsOf x) part) (part-left order none e .0))
+      (h ∙ ap (λ (x : List Row). over (pairsOf x) part) (part-left order none e .0))
 
 -- A sheet of no bytes asks nothing.
 pub nothing-asked : (order none : List ℕ) (rows : List Row) → none ≡ [] → Asked order [] [] rows → Asked order (numbersOf none) [] rows

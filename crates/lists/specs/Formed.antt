@@ -11,9 +11,9 @@ use Rattle.lists.specs.declared.formed.Form.{Form}
 abbrev pub formOf : ℕ → List ℕ → List ℤ → List ℤ → Form
 formOf n order on off =
     cond (isInputs n)
-      (cond (isOrder n order)
-        (cond (wellFormed n on)
-          (cond (wellFormed n off) Form.Good (Form.Refused Refusal.OffSheet))
-          (Form.Refused Refusal.OnSheet))
-        (Form.Refused Refusal.Order))
-      (Form.Refused Refusal.Inputs)
+    (cond (isOrder n order)
+    (cond (wellFormed n on)
+    (cond (wellFormed n off) Form.Good (Form.Refused Refusal.OffSheet))
+    (Form.Refused Refusal.OnSheet))
+    (Form.Refused Refusal.Order))
+    (Form.Refused Refusal.Inputs)

@@ -11,11 +11,13 @@ ghost use Rattle.search.specs.Question.{Asked};
 ghost use Rattle.lists.specs.Blank.{blanked};
 ghost use Rattle.lists.specs.Lent.{asks, behind, firstRows};
 ghost use Rattle.lists.specs.Built.{Lent, builtReply, Stands};
-
 use crate::generate::generate;
 use crate::prune::prune;
-use rules::{List, Refusal, Row};
-use search::{find, Found};
+use rules::List;
+use rules::Refusal;
+use rules::Row;
+use search::Found;
+use search::find;
 
 // How many rows stay, and how many were generated: those that went are blanks.
 pub enum Built {

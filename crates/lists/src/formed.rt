@@ -1,9 +1,10 @@
 // The refusals that look at the input's form, in the order of their numbers, for both list calls.
 ghost use mathlib.Core.Path.{_≡_};
 ghost use Rattle.lists.specs.Formed.{formOf};
-
-use rules::{Refusal, Row};
-use sheets::{is_order, well_formed};
+use rules::Refusal;
+use rules::Row;
+use sheets::is_order;
+use sheets::well_formed;
 
 pub enum Form {
     Good,

@@ -3,8 +3,9 @@ ghost use mathlib.Core.Path.{_≡_};
 ghost use Prim.Native.Nat.{_+_, _*_};
 ghost use Rattle.rules.specs.Answers.{refusalReply, queryReply};
 ghost use Rattle.probe.specs.Packed.{packed};
-
-use rules::{QueryAnswer, Refusal, Setting};
+use rules::QueryAnswer;
+use rules::Refusal;
+use rules::Setting;
 
 // A number without values.
 const NUMBER: u64 = 72057594037927936;

@@ -53,9 +53,11 @@ returns-2 c =
     let t = g .before .before .before in
     let f = t .before .before in
     let d = f .before in
-    let s = d .before .before .before .before .before .before in
-    (reply-too-many _ _ _ _ (met-is _ _ _ _ _ _ _ (s .pre) _ (d .dashes .ensures) _ (f .find .ensures) ∙ ap foundAs (t .enum-told .given .1))
-       (sym (g .generate .ensures .1 .1) ∙ not-true _ (c .if1 .taken)), tt)
+    let s = d .before .before .before .before .before .before in (
+      reply-too-many _ _ _ _ (met-is _ _ _ _ _ _ _ (s .pre) _ (d .dashes .ensures) _ (f .find .ensures) ∙ ap foundAs (t .enum-told .given .1))
+          (sym (g .generate .ensures .1 .1) ∙ not-true _ (c .if1 .taken)),
+      tt,
+    )
 
 slice-aggregate-prune-behind : tie.Need-slice-aggregate-prune-behind
 slice-aggregate-prune-behind c = search needs
@@ -97,9 +99,10 @@ returns-4 c =
     let s = d .before .before .before .before .before .before in
     let none = met-is _ _ _ _ _ _ _ (s .pre) _ (d .dashes .ensures) _ (f .find .ensures) ∙ ap foundAs (t .enum-told .given .1) in
     let whole = sym (g .generate .ensures .1 .1) ∙ not-false _ (e .if1 .left) in
-    let stay = stay-is _ _ _ _ _ _ _ (s .pre) _ _ (g .generate .ensures .0) (g .generate .ensures .1 .0) _ _ (p .prune-behind .ensures .1) (p .prune-behind .ensures .0) in
-    (reply-gives _ _ _ _ none whole _ stay (c .if2 .left),
-     list-stands _ _ _ _ _ _ _ (s .pre) _ _ (g .generate .ensures .0) (g .generate .ensures .1 .0) _ _ (p .prune-behind .ensures .1) (p .prune-behind .ensures .0))
+    let stay = stay-is _ _ _ _ _ _ _ (s .pre) _ _ (g .generate .ensures .0) (g .generate .ensures .1 .0) _ _ (p .prune-behind .ensures .1) (p .prune-behind .ensures .0) in (
+      reply-gives _ _ _ _ none whole _ stay (c .if2 .left),
+      list-stands _ _ _ _ _ _ _ (s .pre) _ _ (g .generate .ensures .0) (g .generate .ensures .1 .0) _ _ (p .prune-behind .ensures .1) (p .prune-behind .ensures .0),
+    )
 
 pub build-spec : {M : Type 1} → statement M
 build-spec =

@@ -34,9 +34,10 @@ part-prune-end c = search needs
 
 prune-requires : tie.Need-prune-requires
 prune-requires c κs =
-    let s = c .before .before .before .before in
-    (rw (part-first (s .args .rows .now) (s .args .ons) (s .args .count) (s .pre .1 .1)) (nothing-asked _ _ _ (s .pre .0) (s .pre .1 .0)),
-     part-room (s .args .rows .now) (s .args .ons) (s .args .count) (s .pre .1 .1))
+    let s = c .before .before .before .before in (
+      rw (part-first (s .args .rows .now) (s .args .ons) (s .args .count) (s .pre .1 .1)) (nothing-asked _ _ _ (s .pre .0) (s .pre .1 .0)),
+      part-room (s .args .rows .now) (s .args .ons) (s .args .count) (s .pre .1 .1),
+    )
 
 same-length : tie.Need-same-length
 same-length c = search needs
@@ -45,9 +46,10 @@ returns : tie.Need-returns
 returns c =
     let s = c .before .before .before .before .before .before .before in
     let p = c .before .before .prune .ensures in
-    let l = part-left (s .args .rows .now) (s .args .ons) (s .args .count) (s .pre .1 .1) (s .args .order .now) (s .args .none .now) (s .pre .0) in
-    (pruned-back (s .args .rows .now) (s .args .ons) (s .args .count) (s .pre .1 .1) (s .args .order .now) (s .args .none .now) (s .pre .0) _ (p .0),
-     p .1 ∙ ap kept (l .1))
+    let l = part-left (s .args .rows .now) (s .args .ons) (s .args .count) (s .pre .1 .1) (s .args .order .now) (s .args .none .now) (s .pre .0) in (
+      pruned-back (s .args .rows .now) (s .args .ons) (s .args .count) (s .pre .1 .1) (s .args .order .now) (s .args .none .now) (s .pre .0) _ (p .0),
+      p .1 ∙ ap kept (l .1),
+    )
 
 pub prune-behind-spec : {M : Type 1} → statement M
 prune-behind-spec =

@@ -6,3 +6,11 @@ mod prune;
 mod put;
 mod solid;
 mod widen;
+
+// The method on what is lent, for callers that lend a sheet in place: rows in a run of words, blanks where they went.
+pub use build::Built;
+pub use build::build;
+pub use solid::copy_solid;
+
+// Pruning on a run of words.
+pub use prune::prune;

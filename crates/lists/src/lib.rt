@@ -8,11 +8,10 @@ pub mod build;
 pub mod solid;
 
 // Pruning on a run of words.
-pub mod prune;
-
 mod barring;
 mod formed;
 mod generate;
+pub mod prune;
 mod put;
 mod whole;
 mod widen;

@@ -1,4 +1,9 @@
+use mathlib.Core.Path.{_≡_, refl, sym, ap, _∙_}
+use lib.Dec.{lit≤}
 use borrow.Author.Needs.{needs}
+use Rattle.rules.specs.Answers.{replyOf, after}
+use Rattle.rules.specs.Calls.{cares, values, listValues}
+use Rattle.lists.proofs.Forms.{whole-refused}
 use Rattle.lists.proofs.whole.whole_list.Statement.{statement}
 use Rattle.lists.proofs.whole.whole_list.Tie as tie
 use Rattle.lists.proofs.whole.whole_list.Reads as reads
@@ -6,50 +11,45 @@ use Rattle.lists.proofs.whole.whole_list.Lts as lts
 use Rattle.lists.proofs.formed.form_of.Reads as form-of-reads
 use Rattle.lists.proofs.whole.from_bars.Reads as from-bars-reads
 
--- src/whole.rt:69:9
 form-of-requires : tie.Need-form-of-requires
 form-of-requires c κs = search needs
 
--- src/whole.rt:70:26
 enum-known-form : tie.Need-enum-known-form
 enum-known-form c = search needs
 
--- src/whole.rt:71:9
 returns : tie.Need-returns
-returns c = ?
+returns c =
+    let f = c .before .before .before in
+    let s = f .before .before .before .before in
+    let v = whole-refused (s .args .n) (s .args .order .now) (s .args .on .now) (s .args .off .now) _ _ (sym (f .form-of .ensures) ∙ c .before .form .given .1) in
+    (ap (replyOf listValues) (sym v), (ap (λ x. after cares x (s .args .care .now)) (sym v), ap (λ x. after values x (s .args .value .now)) (sym v)))
 
 enum-told : tie.Need-enum-told
 enum-told c = search needs
 
--- src/whole.rt:76:34
 array-share-prefix-none : tie.Need-array-share-prefix-none
 array-share-prefix-none c = search needs
 
--- src/whole.rt:76:34
 slice-aggregate-from-bars : tie.Need-slice-aggregate-from-bars
 slice-aggregate-from-bars c = search needs
 
--- src/whole.rt:76:46
 slice-aggregate-from-bars-2 : tie.Need-slice-aggregate-from-bars-2
 slice-aggregate-from-bars-2 c = search needs
 
--- src/whole.rt:76:57
 slice-aggregate-from-bars-3 : tie.Need-slice-aggregate-from-bars-3
 slice-aggregate-from-bars-3 c = search needs
 
--- src/whole.rt:76:5
 from-bars-requires : tie.Need-from-bars-requires
-from-bars-requires c κs = ?
+from-bars-requires c κs =
+    let t = c .before .before .before .before .before in
+    (sym (t .before .before .form-of .ensures) ∙ t .enum-told .given .1, (refl, (lit≤ tt, lit≤ tt)))
 
--- src/whole.rt:64:1
 same-length : tie.Need-same-length
 same-length c = search needs
 
--- src/whole.rt:64:1
 same-length-2 : tie.Need-same-length-2
 same-length-2 c = search needs
 
--- src/whole.rt:64:1
 returns-2 : tie.Need-returns-2
 returns-2 c = search needs
 

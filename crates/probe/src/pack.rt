@@ -1,10 +1,15 @@
 // Answers in one number.
 ghost use mathlib.Core.Path.{_≡_};
-ghost use Prim.Native.Nat.{_+_, _*_};
-ghost use Rattle.rules.specs.Answers.{refusalReply, queryReply};
+ghost use Prim.Native.Nat.{_+_, _*_, _<_};
+ghost use Rattle.rules.specs.Words.{one};
+ghost use Rattle.rules.specs.Answers.{refusalReply, queryReply, valueReply, writeReply};
+ghost use Rattle.rules.specs.Calls.{first};
 ghost use Rattle.probe.specs.Packed.{packed};
-
-use rules::{QueryAnswer, Refusal, Setting};
+use rules::QueryAnswer;
+use rules::Refusal;
+use rules::Setting;
+use rules::ValueAnswer;
+use rules::WriteAnswer;
 
 // A number without values.
 const NUMBER: u64 = 72057594037927936;
@@ -47,5 +52,32 @@ pub fn query_reply(a: QueryAnswer) -> u64
         QueryAnswer::Found(s) => ONE + wide(s.0),
         QueryAnswer::Nothing => 0,
         QueryAnswer::Refused(f) => refusal(f),
+    }
+}
+
+// 1 for true.
+fn one(b: bool) -> u32
+    ensures { λ r. ⌜ r ≡ one b ⌝ }
+{
+    if b { 1 } else { 0 }
+}
+
+pub fn value_reply(a: ValueAnswer) -> u64
+    ensures { λ r. ⌜ r ≡ packed (valueReply a) ⌝ }
+{
+    match a {
+        ValueAnswer::Value(b) => ONE + wide(one(b)),
+        ValueAnswer::Refused(f) => refusal(f),
+    }
+}
+
+// A length that fits in 32 bits.
+pub fn write_reply(a: WriteAnswer) -> u64
+    requires { ⌜ first (writeReply a .values) < 4294967296 ⌝ }
+    ensures { λ r. ⌜ r ≡ packed (writeReply a) ⌝ }
+{
+    match a {
+        WriteAnswer::Length(k) => ONE + k as u64,
+        WriteAnswer::Refused(f) => refusal(f),
     }
 }

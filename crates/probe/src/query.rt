@@ -2,7 +2,6 @@ ghost use mathlib.Core.Path.{_≡_};
 ghost use Rattle.rules.specs.Answers.{replyOf};
 ghost use Rattle.rules.specs.Calls.{lent, listed, query};
 ghost use Rattle.probe.specs.Packed.{packed};
-
 use crate::pack::query_reply;
 use rules::Setting;
 

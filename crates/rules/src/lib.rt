@@ -7,6 +7,7 @@ ghost use Rattle.rules.specs.Sheets.{maxNumbers, maxClauses};
 ghost use Rattle.rules.specs.Method.{maxRows};
 ghost use Rattle.rules.specs.Dimacs.{maxBytes};
 ghost use Rattle.rules.specs.Answers.{refusalReply};
+ghost use Rattle.rules.specs.Calls.{first};
 
 // A variable's number, 1 up.
 pub struct Var(pub u32);
@@ -161,6 +162,29 @@ impl Refusal {
             Refusal::Clauses => 13,
             Refusal::OtherInputs => 14,
             Refusal::Room => 15,
+        }
+    }
+
+    // The setting that refusal 6 returns; 0 for any other.
+    pub fn payload(self) -> u32
+        ensures { λ r. ⌜ r ≡ first (refusalReply self .values) ⌝ }
+    {
+        match self {
+            Refusal::Inputs => 0,
+            Refusal::Order => 0,
+            Refusal::OnSheet => 0,
+            Refusal::OffSheet => 0,
+            Refusal::Asked => 0,
+            Refusal::Collision(s) => s.0,
+            Refusal::TooManyRows => 0,
+            Refusal::GivenList => 0,
+            Refusal::GivenSetting => 0,
+            Refusal::LongText => 0,
+            Refusal::Header => 0,
+            Refusal::Token => 0,
+            Refusal::Clauses => 0,
+            Refusal::OtherInputs => 0,
+            Refusal::Room => 0,
         }
     }
 }

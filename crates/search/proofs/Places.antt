@@ -1,6 +1,6 @@
 -- What is asked, at a place of the order: the variable that stands there, and what the row fixes before and after it.
 use mathlib.Core.Path.{_≡_, refl, sym, ap, subst, _∙_}
-use mathlib.Core.Bool.{Bool, true, false, _&&_, _||_}
+use mathlib.Core.Bool.{Bool, true, false}
 use mathlib.Core.List.{List, [], _∷_}
 use Prim.Native.Nat.{ℕ, zero, suc, _+_, _-_, _≤_, _<_}
 use native.Mathlib.Numerals.{add-one}
@@ -9,9 +9,9 @@ use lib.Dec.{eqb, leb}
 use lib.IntN.{ℤ}
 use lib.ListN.{length, getD, drop, drop-of-length-le}
 use lib.Seq.{drop-cons}
-use borrow.Author.Tests.{leb-true, le-leb, eq-eqb}
+use borrow.Author.Tests.{leb-true, le-leb}
 use Rattle.rules.specs.declared.Row.{Row}
-use Rattle.rules.specs.Words.{maxInputs, withOne, fixes, atZero, atOne}
+use Rattle.rules.specs.Words.{maxInputs, withOne, fixes}
 use Rattle.rules.specs.Sheets.{variable, inReach}
 use Rattle.rules.proofs.Logic.{test, clash, and-both, and-join, or-left, or-right}
 use Rattle.rules.proofs.Bits.{bit, bit-set}

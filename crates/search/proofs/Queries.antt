@@ -1,19 +1,19 @@
 -- A sheet by the rows that it bars, and the query's answer.
 use mathlib.Core.Path.{_≡_, refl, sym, ap, subst, _∙_}
-use mathlib.Core.Bool.{Bool, true, false, not, _&&_, Bool·not-not}
+use mathlib.Core.Bool.{true, false, _&&_, Bool·not-not}
 use mathlib.Core.List.{List, [], _∷_}
 use mathlib.Core.Option.{Option}
-use Prim.Native.Nat.{ℕ, _+_, _*_, _≤_, _<_, min}
+use Prim.Native.Nat.{ℕ, _*_, _≤_}
 use native.Mathlib.Omega.{arith}
 use lib.Dec.{leb}
 use lib.IntN.{ℤ}
 use lib.ListN.{length, take, length-take}
 use borrow.Author.Tests.{leb-true}
 use Rattle.rules.specs.declared.Row.{Row}
-use Rattle.rules.specs.Words.{maxInputs, isInputs, isOrder, isRow, fits, holds, dashes, inSome}
+use Rattle.rules.specs.Words.{maxInputs, isInputs, isOrder, isRow, fits, holds, dashes}
 use Rattle.rules.specs.Sheets.{maxNumbers, maxClauses, clauses, endsClosed, inReach, wellFormed, satisfies, everyClause}
 use Rattle.rules.specs.Search.{smallest, notBelow}
-use Rattle.rules.specs.Answers.{Reply, answered, refusal, judge, replyOf, over}
+use Rattle.rules.specs.Answers.{answered, refusal, judge, replyOf, over}
 use Rattle.rules.specs.Calls.{wordsOf, areRows, lent, listed, query}
 use Rattle.rules.proofs.Logic.{and-both, and-join}
 use Rattle.rules.proofs.Orders.{is-order}
@@ -45,14 +45,15 @@ module _ (n : ℕ) (sheet : List ℤ) (h : wellFormed n sheet ≡ true) where
       let q = and-both (leb (clauses sheet) maxClauses) (endsClosed true sheet && inReach n sheet) (p .1) in
       (q .0, and-both (endsClosed true sheet) (inReach n sheet) (q .1) .1)
 
-  pub few-clauses : 2 * clauses sheet ≤ 2048
+  pub few-clauses : 2 * clauses sheet ≤ 2 * maxClauses
   few-clauses = let k = leb-true (clauses sheet) maxClauses (parts .0) in omega arith
 
-  pub few-barred : (count : ℕ) → count ≡ length (barred sheet) → 2 * count ≤ 2048
+  pub few-barred : (count : ℕ) → count ≡ length (barred sheet) → 2 * count ≤ 2 * maxClauses
   few-barred count e = let l = barred-length sheet in let k = few-clauses in omega arith
 
-  -- the rows that it bars, over the first words of a run of at least 2,048
-  module _ (old run : List ℕ) (count : ℕ) (size : 2048 ≤ length old) (run-is : run ≡ over (pairsOf (barred sheet)) old) (count-is : count ≡ length (barred sheet)) where
+  -- the rows that it bars, over the first words of a run of at least two words for each clause that a sheet may have
+  module _ (old run : List ℕ) (count : ℕ) (size : 2 * maxClauses ≤ length old)
+      (run-is : run ≡ over (pairsOf (barred sheet)) old) (count-is : count ≡ length (barred sheet)) where
     pub barred-fit : 2 * count ≤ length run
     barred-fit =
         let k = few-barred count count-is in
@@ -109,7 +110,7 @@ module _ (n : ℕ) (order : List ℕ) (sheet : List ℤ) (start : ℕ) where
         unfolding query judge
         refused-9 d = rw (a, b, c, d)
 
-        pub found : fits n start ≡ true → (o : Option ℕ) → o ≡ smallest (notBelow order start (satisfies sheet)) order dashes
+        pub replied : fits n start ≡ true → (o : Option ℕ) → o ≡ smallest (notBelow order start (satisfies sheet)) order dashes
             → answered (listed o) ≡ replyOf listed (query n (lent order) (lent sheet) start)
         unfolding query judge
-        found d o e = rw (a, b, c, d, e)
+        replied d o e = rw (a, b, c, d, e)

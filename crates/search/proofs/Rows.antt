@@ -1,6 +1,6 @@
 -- Kept rows read two words at a time.
 use mathlib.Core.Path.{_≡_, refl, sym, ap, _∙_}
-use mathlib.Core.Bool.{Bool, true, false, _&&_, _||_}
+use mathlib.Core.Bool.{Bool, true, false, _||_}
 use mathlib.Core.List.{List, [], _∷_}
 use Prim.Native.Nat.{ℕ, suc, _+_, _*_, _/_, _≤_, _<_}
 use native.Mathlib.Omega.{arith}
@@ -13,18 +13,18 @@ use Rattle.sheets.specs.Barred.{rowsOf}
 use Rattle.search.specs.Question.{covers, coversSome}
 
 -- the k-th kept row
-abbrev rowAt : List ℕ → ℕ → Row
+abbrev pub rowAt : List ℕ → ℕ → Row
 rowAt ws k = record { care = getD ws (2 * k) 0; value = getD ws (2 * k + 1) 0 }
 
 -- the rows from the k-th on are the k-th and those after it; after the last there are none
-rows-more : (ws : List ℕ) (k : ℕ) → k < length ws / 2 → rowsOf (drop (2 * k) ws) ≡ rowAt ws k ∷ rowsOf (drop (2 * (k + 1)) ws)
+pub rows-more : (ws : List ℕ) (k : ℕ) → k < length ws / 2 → rowsOf (drop (2 * k) ws) ≡ rowAt ws k ∷ rowsOf (drop (2 * (k + 1)) ws)
 unfolding rowsOf
 rows-more ws k h =
     let one : suc (2 * k) ≡ 2 * k + 1 = omega arith in
     let two : suc (2 * k + 1) ≡ 2 * (k + 1) = omega arith in
     rw (drop-cons ws (2 * k) 0 (omega arith), one, drop-cons ws (2 * k + 1) 0 (omega arith), two)
 
-rows-end : (ws : List ℕ) (k : ℕ) → length ws / 2 ≤ k → rowsOf (drop (2 * k) ws) ≡ []
+pub rows-end : (ws : List ℕ) (k : ℕ) → length ws / 2 ≤ k → rowsOf (drop (2 * k) ws) ≡ []
 unfolding rowsOf
 rows-end ws k h = few (drop (2 * k) ws) (omega (arith, length-drop (2 * k) ws))
   where

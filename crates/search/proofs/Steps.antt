@@ -1,7 +1,7 @@
 -- One level of the search, as the definition has it.
-use mathlib.Core.Path.{_≡_, refl, sym, ap, _∙_}
-use mathlib.Core.Bool.{Bool, true, false, cond}
-use mathlib.Core.List.{List, [], _∷_}
+use mathlib.Core.Path.{_≡_, sym, ap, _∙_}
+use mathlib.Core.Bool.{Bool, true, false}
+use mathlib.Core.List.{List}
 use mathlib.Core.Option.{Option, none, some}
 use Prim.Native.Nat.{ℕ, _+_, _-_, _≤_, _<_}
 use lib.ListN.{length, getD, drop, drop-of-length-le}
@@ -14,7 +14,7 @@ use Rattle.rules.proofs.Orders.{is-order}
 use Rattle.rules.proofs.From.{Free, smallestFrom, from-is}
 use Rattle.rules.proofs.Reach.{smallest-pass, smallest-try}
 use Rattle.search.specs.declared.Found.{Found}
-use Rattle.search.specs.declared.Found.the-variants.{At, Nothing}
+use Rattle.search.specs.declared.Found.the-variants.{At}
 use Rattle.search.specs.Question.{foundAs}
 use Rattle.search.proofs.Places.{first-left}
 

@@ -51,6 +51,6 @@ pub record Asked (order : List ℕ) (a b : List ℤ) (rows : List Row) : Type 0 
   pub reach-b : inReach (length order) b ≡ true
   pub cares : caresWithin (length order) rows ≡ true
 
--- the row fixes every variable before the place; and no other
+-- the row fixes every variable before the place: each that is none of those left
 abbrev pub Passed : List ℕ → ℕ → Row → Type 0
 Passed order place r = (i : ℕ) → i < length order → has i (drop place order) ≡ false → bit i (r .care) ≡ true

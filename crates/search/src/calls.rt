@@ -1,4 +1,4 @@
-// The query: the smallest setting that satisfies a sheet and is not below a start.
+// The call that asks for the smallest setting that satisfies a sheet and is not below a start.
 ghost use mathlib.Core.Path.{_≡_};
 ghost use mathlib.Core.Bool.{true};
 ghost use Prim.Native.Nat.{_≤_};
@@ -47,6 +47,7 @@ pub fn satisfied_from(n: u32, order: &[u32], sheet: &[i32], start: Setting) -> F
     find_from(order, start, &[], &[], &rows[..end])
 }
 
+// The query: refusals 1, 2, 3 and 9 in this order, else the setting.
 pub fn query(n: u32, order: &[u32], sheet: &[i32], start: Setting) -> QueryAnswer
     ensures { λ r. ⌜ queryReply r ≡ replyOf listed (query n (lent (now (order .entry))) (lent (now (sheet .entry))) (start .0)) ⌝ }
 {

@@ -1,18 +1,29 @@
-// The smallest setting of a row that satisfies two sheets and lies in none of the kept rows.
+// The one search: the smallest setting of a row, or the smallest not below a start, that satisfies two sheets and lies in none of
+// the kept rows.
 mod bounded;
 mod calls;
 mod cut;
 mod smallest;
 mod step;
 
-pub use bounded::find_from;
-pub use calls::fits;
-pub use calls::is_inputs;
-pub use calls::query;
 use rules::Setting;
-pub use smallest::find;
 
+// The setting that was asked for, or none.
 pub enum Found {
     At(Setting),
     Nothing,
 }
+
+// In a row, and from a start on.
+pub use bounded::find_from;
+pub use smallest::find;
+
+// The variable at a place.
+pub use step::var_at;
+
+// The call.
+pub use calls::query;
+
+// What calls test of their inputs.
+pub use calls::fits;
+pub use calls::is_inputs;

@@ -39,7 +39,7 @@ pub over-length : (new old : List ℕ) → length new ≤ length old → length 
 over-length new old h = length-append new (drop (length new) old) ∙ rw (length-drop (length new) old) (omega arith)
 
 -- one more word, and one more row
-over-more : (new old : List ℕ) (a n : ℕ) → n ≡ length new → n < length old → set (over new old) n a ≡ over (new ++ (a ∷ [])) old
+pub over-more : (new old : List ℕ) (a n : ℕ) → n ≡ length new → n < length old → set (over new old) n a ≡ over (new ++ (a ∷ [])) old
 over-more new old a n e h =
     let l : length new < length old = omega arith in
     ap (λ (t : List ℕ). set (new ++ t) n a) (drop-cons old (length new) 0 l)

@@ -9,8 +9,6 @@ use Rattle.search.specs.Question.{coversSome}
 use Rattle.search.proofs.Rows.{hit, miss-care, miss-value, missed}
 use Rattle.search.proofs.cut.inside.Statement.{statement}
 use Rattle.search.proofs.cut.inside.Tie as tie
-use Rattle.search.proofs.cut.inside.Reads as reads
-use Rattle.search.proofs.cut.inside.Lts as lts
 
 abbrev Inv-loop : tie.InvT-loop
 Inv-loop rows care value count k₀ k =
@@ -20,54 +18,44 @@ Inv-loop rows care value count k₀ k =
 abbrev μ-loop : tie.MeasureT-loop
 μ-loop rows care value count k₀ k = count - k
 
--- src/cut.rt:16:5
 loop-holds : tie.Need-loop-holds Inv-loop μ-loop
 loop-holds c = refl
 
--- src/cut.rt:17:17
 mul-i : tie.Need-mul-i Inv-loop μ-loop
 mul-i c = search needs
 
--- src/cut.rt:18:17
 mul-c : tie.Need-mul-c Inv-loop μ-loop
 mul-c c = search needs
 
--- src/cut.rt:18:17
 shared-slice-read-c : tie.Need-shared-slice-read-c Inv-loop μ-loop
 shared-slice-read-c c = search needs
 
--- src/cut.rt:19:22
 add-v : tie.Need-add-v Inv-loop μ-loop
 add-v c = search needs
 
--- src/cut.rt:19:17
 mul-v : tie.Need-mul-v Inv-loop μ-loop
 mul-v c = search needs
 
--- src/cut.rt:19:17
 shared-slice-read-v : tie.Need-shared-slice-read-v Inv-loop μ-loop
 shared-slice-read-v c = search needs
 
--- src/cut.rt:22:17
 returns : tie.Need-returns Inv-loop μ-loop
-returns c = hit _ _ _ _ (c .before .before .before .before .before .loop .inv) (c .before .before .before .before .loop-test .taken) (c .before .if1 .taken) (c .if2 .taken)
+returns c =
+    let l = c .before .before .before .before in
+    hit _ _ _ _ (l .before .loop .inv) (l .loop-test .taken) (c .before .if1 .taken) (c .if2 .taken)
 
--- src/cut.rt:25:9
 add-k : tie.Need-add-k Inv-loop μ-loop
 add-k c = search needs
 
--- src/cut.rt:16:5
 loop-less : tie.Need-loop-less Inv-loop μ-loop
 loop-less c = search needs
 
--- src/cut.rt:16:5
 loop-again : tie.Need-loop-again Inv-loop μ-loop
 loop-again c =
     let i = c .before .before .before .before .loop .inv in
     let h = c .before .before .before .loop-test .taken in
     either (c .if1 .came) (λ w. miss-value _ _ _ _ i h (w .0 .taken) (w .1 .left)) (λ w. miss-care _ _ _ _ i h (w .left))
 
--- src/cut.rt:9:1
 returns-2 : tie.Need-returns-2 Inv-loop μ-loop
 returns-2 c = missed _ _ _ _ (c .before .loop .inv) (c .loop-test .left)
 

@@ -79,7 +79,8 @@ search-returns-2 : (t : ℕ) → search-lts.Need-returns-2 (known t) (search-at 
 search-returns-2 t c =
     let v = c .before .before .before in
     let s = v .before .before .before in
-    c .search .ensures ∙ sym (passes _ _ _ (s .args .row) _ (v .before .if1 .left) (v .var-at .ensures) (sym (c .before .before .is-one .ensures) ∙ c .before .if2 .taken))
+    c .search .ensures
+    ∙ sym (passes _ _ _ (s .args .row) _ (v .before .if1 .left) (v .var-at .ensures) (sym (c .before .before .is-one .ensures) ∙ c .before .if2 .taken))
 
 -- any other, at 0
 search-at-zero-requires : (t : ℕ) → search-lts.Need-at-zero-requires (known t) (search-at t) search′.Post

@@ -1,0 +1,132 @@
+-- What building a list has found and kept, stage by stage.
+use mathlib.Core.Path.{_≡_, refl, sym, ap, _∙_, subst}
+use mathlib.Core.Bool.{Bool, true, _&&_}
+use mathlib.Core.List.{List, [], _∷_, _++_}
+use mathlib.Core.Option.{Option}
+use Prim.Native.Nat.{ℕ, _+_, _*_, _≤_}
+use native.Mathlib.Omega.{arith}
+use lib.ListN.{length, drop, length-append}
+use Rattle.rules.specs.declared.Row.{Row}
+use Rattle.rules.specs.Words.{fits, holds, isRow, dashes}
+use Rattle.rules.specs.Sheets.{inReach}
+use Rattle.rules.specs.Search.{smallest}
+use Rattle.rules.specs.Method.{maxRows, generated, listOf, marks, pruned, all}
+use Rattle.rules.specs.Answers.{over}
+use Rattle.rules.specs.Calls.{collision, kept}
+use Rattle.rules.proofs.Logic.{and-both, and-join}
+use Rattle.rules.proofs.Orders.{IsOrder, is-order}
+use Rattle.rules.proofs.Generation.{All, generated-rows, size}
+use Rattle.sheets.specs.Barred.{rowsOf, pairsOf}
+use Rattle.sheets.specs.Numbers.{numbersOf}
+use Rattle.sheets.proofs.Pairs.{pairs-length, over-length}
+use Rattle.search.specs.Question.{good, caresWithin, Asked}
+use Rattle.lists.specs.Blank.{blanked, solid}
+use Rattle.lists.specs.Lent.{asks, firstRows, behind}
+use Rattle.lists.specs.Built.{Lent}
+use Rattle.lists.proofs.Blanks.{blanked-length}
+use Rattle.lists.proofs.Next.{collision-found}
+use Rattle.lists.proofs.Kept.{first-rows}
+use Rattle.lists.proofs.Judges.{rows-split, over-rows}
+use Rattle.lists.proofs.Standing.{behind-rows, front-rows, solid-list, list-length}
+
+cares-of-rows : (n : ℕ) (rows : List Row) → All (λ r. isRow n r ≡ true) rows → caresWithin n rows ≡ true
+unfolding caresWithin
+cares-of-rows n [] w = refl
+cares-of-rows n (r ∷ rows) w = and-join (and-both (fits n (r .care)) (holds r (r .value)) (w .0) .0) (cares-of-rows n rows (w .1))
+
+pub is-dashes : (r : Row) → (r .care ≡ 0) × (r .value ≡ 0) → r ≡ dashes
+is-dashes r e = λ i. record { care = e .0 i; value = e .1 i }
+
+module _ (order on off both : List ℕ) (offs : ℕ) (old : List ℕ) (ons : ℕ) (lent : Lent order on off both offs old ons) where
+  abbrev onAt : ℕ → Bool
+  onAt = asks on (firstRows ons old)
+
+  abbrev offAt : ℕ → Bool
+  offAt = asks off (firstRows offs both)
+
+  abbrev rows : List Row
+  rows = generated order onAt offAt maxRows
+
+  isOrder : IsOrder (length order) order
+  isOrder = is-order (length order) order (lent .on-asked .ordered)
+
+  -- the first question is whether the sheets collide
+  pub met-is : (r : Row) → (r .care ≡ 0) × (r .value ≡ 0) → (met : Option ℕ) → met ≡ smallest (good (numbersOf on) (numbersOf off) (rowsOf both)) order r
+      → collision order onAt offAt ≡ met
+  met-is r e met h =
+      sym (h ∙ ap (smallest (good (numbersOf on) (numbersOf off) (rowsOf both)) order) (is-dashes r e)
+      ∙ ap (λ (x : List Row). smallest (good (numbersOf on) (numbersOf off) x) order dashes) (lent .joined)
+      ∙ collision-found (length order) order isOrder (numbersOf on) (firstRows ons old) (numbersOf off) (firstRows offs both))
+
+  first-size : length (firstRows ons old) ≡ ons
+  first-size = rows-split ons old (let h = lent .room in omega arith) .1
+
+  module _ (words : List ℕ) (count : ℕ) (stand : words ≡ over (pairsOf (firstRows ons old ++ rows)) old) (many : count ≡ length rows) where
+    all-rows : All (λ r. isRow (length order) r ≡ true) rows
+    all-rows = generated-rows (length order) order isOrder onAt offAt maxRows
+
+    few : length rows ≤ maxRows
+    few = size order onAt offAt maxRows .0
+
+    total : length (firstRows ons old ++ rows) ≡ ons + count
+    total = length-append (firstRows ons old) rows ∙ (let e = first-size in let q : length (firstRows ons old) + length rows ≡ ons + count = omega arith in q)
+
+    laid : words ≡ pairsOf (firstRows ons old ++ rows) ++ drop (2 * (ons + count)) old
+    laid = stand ∙ over-rows (firstRows ons old ++ rows) (ons + count) old total
+
+    words-size : length words ≡ length old
+    words-size =
+        ap length stand
+        ∙ over-length (pairsOf (firstRows ons old ++ rows)) old
+        (let a = pairs-length (firstRows ons old ++ rows) in let b = total in let c = few in let d = lent .room in omega arith)
+
+    pub made-room : 2 * (ons + count) ≤ length words
+    made-room = let a = words-size in let b = few in let c = lent .room in omega arith
+
+    pub made-behind : behind ons count words ≡ rows
+    made-behind = ap (behind ons count) laid ∙ behind-rows (firstRows ons old) rows (drop (2 * (ons + count)) old) ons count first-size (sym many)
+
+    pub made-asked : Asked order [] [] (behind ons count words)
+    unfolding inReach
+    made-asked =
+        subst (Asked order [] []) (sym made-behind) (record {
+          ordered = lent .on-asked .ordered;
+          size = lent .on-asked .size;
+          reach-a = refl;
+          reach-b = refl;
+          cares = cares-of-rows (length order) rows all-rows;
+        })
+
+    -- and what stays of it
+    module _ (stay : ℕ) (left : List ℕ) (staying : stay ≡ kept (marks all order (behind ons count words)))
+        (blanks : left ≡ over (pairsOf (firstRows ons words ++ blanked (marks all order (behind ons count words)) (behind ons count words))) words) where
+      pub stay-is : stay ≡ length (listOf order onAt offAt)
+      unfolding listOf
+      stay-is = staying ∙ ap (λ (x : List Row). kept (marks all order x)) made-behind ∙ sym (list-length order rows)
+
+      new : List Row
+      new = blanked (marks all order (behind ons count words)) (behind ons count words)
+
+      new-size : length new ≡ count
+      unfolding new
+      new-size = blanked-length (marks all order (behind ons count words)) (behind ons count words) ∙ ap length made-behind ∙ sym many
+
+      front-size : length (firstRows ons words) ≡ ons
+      front-size = rows-split ons words (let a = made-room in omega arith) .1
+
+      both-size : length (firstRows ons words ++ new) ≡ ons + count
+      both-size = length-append (firstRows ons words) new ∙ (let a = front-size in let b = new-size in let q : length (firstRows ons words) + length new ≡ ons + count = omega arith in q)
+
+      left-laid : left ≡ pairsOf (firstRows ons words ++ new) ++ drop (2 * (ons + count)) words
+      unfolding new
+      left-laid = blanks ∙ over-rows (firstRows ons words ++ new) (ons + count) words both-size
+
+      pub list-stands : (2 * (ons + count) ≤ length left) × (solid (behind ons count left) ≡ listOf order onAt offAt)
+      unfolding listOf new
+      list-stands =
+          let s : length left ≡ length words = ap length blanks
+          ∙ over-length (pairsOf (firstRows ons words ++ new)) words (let a = pairs-length (firstRows ons words ++ new) in let b = both-size in let c = made-room in omega arith) in (
+            (let a = made-room in omega arith),
+            ap solid (ap (behind ons count) left-laid ∙ behind-rows (firstRows ons words) new (drop (2 * (ons + count)) words) ons count front-size new-size)
+                ∙ ap (λ (x : List Row). solid (blanked (marks all order x) x)) made-behind ∙ solid-list (length order) order rows all-rows,
+          )

@@ -2,3 +2,4 @@
 mod given_lists;
 mod pack;
 mod query;
+mod whole;

@@ -2,9 +2,10 @@
 ghost use mathlib.Core.Path.{_≡_};
 ghost use Prim.Native.Nat.{_+_, _*_, _<_};
 ghost use Rattle.rules.specs.Words.{one};
-ghost use Rattle.rules.specs.Answers.{refusalReply, queryReply, valueReply, writeReply};
+ghost use Rattle.rules.specs.Answers.{refusalReply, queryReply, valueReply, writeReply, listReply};
 ghost use Rattle.rules.specs.Calls.{first};
-ghost use Rattle.probe.specs.Packed.{packed};
+ghost use Rattle.probe.specs.Packed.{packed, packedCounts};
+use rules::ListAnswer;
 use rules::QueryAnswer;
 use rules::Refusal;
 use rules::Setting;
@@ -79,5 +80,22 @@ pub fn write_reply(a: WriteAnswer) -> u64
     match a {
         WriteAnswer::Length(k) => ONE + k as u64,
         WriteAnswer::Refused(f) => refusal(f),
+    }
+}
+
+// A refusal's setting fits 32 bits: its payload says so.
+fn refusal_counts(f: Refusal) -> u64
+    ensures { λ r. ⌜ r ≡ packedCounts (refusalReply f) ⌝ }
+{
+    let _setting = f.payload();
+    refusal(f)
+}
+
+pub fn list_reply(a: ListAnswer) -> u64
+    ensures { λ r. ⌜ r ≡ packedCounts (listReply a) ⌝ }
+{
+    match a {
+        ListAnswer::Rows(count) => ONE + (count % 4294967296) as u64,
+        ListAnswer::Refused(f) => refusal_counts(f),
     }
 }

@@ -145,3 +145,21 @@ module _ (n : ℕ) (order : List ℕ) (on off : List ℤ) (few : n ≤ maxInputs
         joined = run-rows ∙ sym (ap₂ (λ (x y : List Row). x ++ y) off-first on-first);
         within = (let a = length-take (2 * (offs + ons)) both in omega arith);
         room = kept-room }
+
+-- A sheet in form bars at most 1,024 rows.
+pub few-barred : (n : ℕ) (sheet : List ℤ) → wellFormed n sheet ≡ true → (clauses sheet ≤ maxClauses) × (length (barred sheet) ≤ maxClauses)
+unfolding wellFormed
+few-barred n sheet h =
+    let c = and-both (leb (clauses sheet) maxClauses) _ (and-both (leb (length sheet) maxNumbers) _ h .1) in
+    let l : clauses sheet ≤ maxClauses = leb-true (clauses sheet) maxClauses (c .0) in
+    (l, (let d = barred-length sheet in omega arith))
+
+pub both-room : (n : ℕ) (on off : List ℤ) → wellFormed n on ≡ true → wellFormed n off ≡ true → (both old : List ℕ) (ons offs : ℕ) → ons ≡ length (barred on) → offs ≡ length (barred off)
+    → both ≡ over (pairsOf (barred off ++ barred on)) old → 4 * maxClauses ≤ length old → 2 * (offs + ons) ≤ length both
+both-room n on off p q both old ons offs i j b h =
+    let a = few-barred n on p .1 in
+    let c = few-barred n off q .1 in
+    let l = pairs-length (barred off ++ barred on) in
+    let m = length-append (barred off) (barred on) in
+    let e = ap length b ∙ over-length (pairsOf (barred off ++ barred on)) old (omega arith) in
+    omega arith

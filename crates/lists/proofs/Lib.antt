@@ -12,3 +12,4 @@ pub mod Lending
 pub mod Building
 pub mod Builds
 pub mod Forms
+pub mod Wholes

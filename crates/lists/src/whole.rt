@@ -13,7 +13,7 @@ ghost use Rattle.lists.specs.Formed.{formOf};
 use crate::barring::bar_both;
 use crate::build::{build, Built};
 use crate::formed::{form_of, Form};
-use crate::solid::copy_solid;
+use crate::solid::copy_behind;
 use rules::{List, ListAnswer, Sheet};
 use sheets::bar;
 
@@ -53,7 +53,7 @@ fn from_bars(
     let built = build(order, none, none, &both[..2 * (offs + ons)], offs, kept, ons, room);
     match built {
         Built::Rows(count, generated) => {
-            copy_solid(&kept[2 * ons..2 * (ons + generated)], care, value);
+            copy_behind(kept, ons, generated, care, value);
             ListAnswer::Rows(count)
         }
         Built::Refused(f) => ListAnswer::Refused(f),

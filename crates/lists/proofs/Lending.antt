@@ -62,10 +62,10 @@ module _ (first second : List Row) (m : ℕ) (many : m ≡ length first) (old wo
       let rest : List ℕ = drop (2 * (m + length second)) old in
       let front : take (2 * m) words ≡ pairsOf first = ap (take (2 * m)) laid ∙ take-at (pairsOf first) (drop (2 * m) old) (2 * m) doubled in
       let mid : after ≡ pairsOf second ++ rest =
-          e ∙ ap (over (pairsOf second)) part-is ∙ over-rows second (length second) (drop (2 * m) old) refl
-          ∙ ap (λ (x : List ℕ). pairsOf second ++ x) (drop-drop (2 * length second) (2 * m) old ∙ ap (λ (k : ℕ). drop k old) (let q : 2 * m + 2 * length second ≡ 2 * (m + length second) = omega arith in q)) in
+      e ∙ ap (over (pairsOf second)) part-is ∙ over-rows second (length second) (drop (2 * m) old) refl
+      ∙ ap (λ (x : List ℕ). pairsOf second ++ x) (drop-drop (2 * length second) (2 * m) old ∙ ap (λ (k : ℕ). drop k old) (let q : 2 * m + 2 * length second ≡ 2 * (m + length second) = omega arith in q)) in
       let none : drop (length words - 2 * m) (drop (2 * m) words) ≡ [] =
-          drop-of-length-le (drop (2 * m) words) {i = length words - 2 * m} (let a = length-drop (2 * m) words in omega arith) in
+      drop-of-length-le (drop (2 * m) words) {i = length words - 2 * m} (let a = length-drop (2 * m) words in omega arith) in
       let both : length (first ++ second) ≡ m + length second = length-append first second ∙ ap (λ (k : ℕ). k + length second) (sym many) in
       ap (λ (x : List ℕ). x ++ (after ++ drop (length words - 2 * m) (drop (2 * m) words))) front
       ∙ ap (λ (x : List ℕ). pairsOf first ++ (x ++ drop (length words - 2 * m) (drop (2 * m) words))) mid
@@ -94,11 +94,12 @@ module _ (n : ℕ) (order : List ℕ) (on off : List ℤ) (few : n ≤ maxInputs
   asked : (rows : List Row) → caresWithin n rows ≡ true → Asked order [] [] rows
   unfolding inReach
   asked rows w = record {
-      ordered = subst (λ (k : ℕ). isOrder k order ≡ true) (sym order-size) a2;
-      size = subst (λ (k : ℕ). k ≤ maxInputs) (sym order-size) few;
-      reach-a = refl;
-      reach-b = refl;
-      cares = subst (λ (k : ℕ). caresWithin k rows ≡ true) (sym order-size) w }
+    ordered = subst (λ (k : ℕ). isOrder k order ≡ true) (sym order-size) a2;
+    size = subst (λ (k : ℕ). k ≤ maxInputs) (sym order-size) few;
+    reach-a = refl;
+    reach-b = refl;
+    cares = subst (λ (k : ℕ). caresWithin k rows ≡ true) (sym order-size) w;
+  }
 
   on-cares : caresWithin n (barred on) ≡ true
   on-cares = cares-in n (barred on) (barred-rows n on (form-reach n on a3))
@@ -118,7 +119,7 @@ module _ (n : ℕ) (order : List ℕ) (on off : List ℤ) (few : n ≤ maxInputs
     run-is : run ≡ pairsOf (barred off ++ barred on)
     run-is =
         let size : length (pairsOf (barred off ++ barred on)) ≡ 2 * (offs + ons) =
-            pairs-length (barred off ++ barred on) ∙ ap (λ (x : ℕ). 2 * x) (length-append (barred off) (barred on) ∙ ap₂ (λ (x y : ℕ). x + y) (sym manyOff) (sym manyOn)) in
+        pairs-length (barred off ++ barred on) ∙ ap (λ (x : ℕ). 2 * x) (length-append (barred off) (barred on) ∙ ap₂ (λ (x y : ℕ). x + y) (sym manyOff) (sym manyOn)) in
         ap (take (2 * (offs + ons))) b ∙ take-at (pairsOf (barred off ++ barred on)) (drop (length (pairsOf (barred off ++ barred on))) old′) (2 * (offs + ons)) size
 
     run-rows : rowsOf run ≡ barred off ++ barred on
@@ -139,12 +140,13 @@ module _ (n : ℕ) (order : List ℕ) (on off : List ℤ) (few : n ≤ maxInputs
     pub lent : Lent order [] [] run offs kept ons
     unfolding wordsOf
     lent = record {
-        on-asked = subst (Asked order [] []) (sym on-first) (asked (barred on) on-cares);
-        off-asked = subst (Asked order [] []) (sym off-first) (asked (barred off) off-cares);
-        both-asked = subst (Asked order [] []) (sym run-rows) (asked (barred off ++ barred on) (cares-append n (barred off) (barred on) off-cares on-cares));
-        joined = run-rows ∙ sym (ap₂ (λ (x y : List Row). x ++ y) off-first on-first);
-        within = (let a = length-take (2 * (offs + ons)) both in omega arith);
-        room = kept-room }
+      on-asked = subst (Asked order [] []) (sym on-first) (asked (barred on) on-cares);
+      off-asked = subst (Asked order [] []) (sym off-first) (asked (barred off) off-cares);
+      both-asked = subst (Asked order [] []) (sym run-rows) (asked (barred off ++ barred on) (cares-append n (barred off) (barred on) off-cares on-cares));
+      joined = run-rows ∙ sym (ap₂ (λ (x y : List Row). x ++ y) off-first on-first);
+      within = (let a = length-take (2 * (offs + ons)) both in omega arith);
+      room = kept-room;
+    }
 
 -- A sheet in form bars at most 1,024 rows.
 pub few-barred : (n : ℕ) (sheet : List ℤ) → wellFormed n sheet ≡ true → (clauses sheet ≤ maxClauses) × (length (barred sheet) ≤ maxClauses)

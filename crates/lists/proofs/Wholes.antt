@@ -32,7 +32,7 @@ use Rattle.lists.proofs.Lending as lending
 number-of : (r s : Reply) → r ≡ s → r .number ≡ s .number
 number-of r s e = ap (λ (x : Reply). x .number) e
 
-refusal-some : (f : Refusal) → 1 ≤ refusalReply f .number
+pub refusal-some : (f : Refusal) → 1 ≤ refusalReply f .number
 refusal-some Refusal.Inputs = omega arith
 refusal-some Refusal.Order = omega arith
 refusal-some Refusal.OnSheet = omega arith
@@ -68,12 +68,12 @@ module _ (order : List ℕ) (on off : ℕ → Bool) (room : ℕ) where
   pub verdict-is : (b : Built) → builtReply b ≡ replyOf listValues (wholeFor [] order on off room) → Verdicts b (listOf order on off) (wholeFor [] order on off room)
   verdict-is b h =
       option (collision order on off)
-        (λ e. test (complete order on (generated order on off maxRows))
-          (λ c. test (ltb room (length (listOf order on off)))
-            (λ q. refused-so b (refusal 15) (omega arith) (no-room order on off room e c (ltb-true _ _ q)) h)
-            (λ q. given-so b (gives order on off room e c (ltb-false _ _ q)) h))
-          (λ c. refused-so b (refusal 7) (omega arith) (too-many order on off room e c) h))
-        (λ s e. refused-so b (record { number = 6; values = s ∷ [] }) (omega arith) (collides order on off room s e) h)
+      (λ e. test (complete order on (generated order on off maxRows))
+      (λ c. test (ltb room (length (listOf order on off)))
+      (λ q. refused-so b (refusal 15) (omega arith) (no-room order on off room e c (ltb-true _ _ q)) h)
+      (λ q. given-so b (gives order on off room e c (ltb-false _ _ q)) h))
+      (λ c. refused-so b (refusal 7) (omega arith) (too-many order on off room e c) h))
+      (λ s e. refused-so b (record { number = 6; values = s ∷ [] }) (omega arith) (collides order on off room s e) h)
 
 -- An input in form, and the runs that its rows are kept in.
 module _ (n : ℕ) (order : List ℕ) (on off : List ℤ) (inForm : formOf n order on off ≡ Form.Good) (empty : List ℕ) (isEmpty : empty ≡ [])
@@ -95,10 +95,10 @@ module _ (n : ℕ) (order : List ℕ) (on off : List ℤ) (inForm : formOf n ord
   unfolding wordsOf
   asked-whole r =
       let onFirst : firstRows ons kept ≡ barred on =
-          lending.on-first n order on off (few-inputs n (formed .0)) (formed .1) (formed .2) (formed .3) kept both old old′ ons offs manyOn manyOff k b room fit in
+      lending.on-first n order on off (few-inputs n (formed .0)) (formed .1) (formed .2) (formed .3) kept both old old′ ons offs manyOn manyOff k b room fit in
       let offFirst : firstRows offs (take (2 * (offs + ons)) both) ≡ barred off =
-          lending.off-first n order on off (few-inputs n (formed .0)) (formed .1) (formed .2) (formed .3) kept both old old′ ons offs manyOn manyOff k b room fit in
+      lending.off-first n order on off (few-inputs n (formed .0)) (formed .1) (formed .2) (formed .3) kept both old old′ ons offs manyOn manyOff k b room fit in
       ap₂ (λ (f g : ℕ → Bool). wholeFor [] order f g r)
-        (ap (λ (x : List ℕ). asks x (firstRows ons kept)) isEmpty ∙ ap (good [] []) onFirst)
-        (ap (λ (x : List ℕ). asks x (firstRows offs (take (2 * (offs + ons)) both))) isEmpty ∙ ap (good [] []) offFirst)
+      (ap (λ (x : List ℕ). asks x (firstRows ons kept)) isEmpty ∙ ap (good [] []) onFirst)
+      (ap (λ (x : List ℕ). asks x (firstRows offs (take (2 * (offs + ons)) both))) isEmpty ∙ ap (good [] []) offFirst)
       ∙ sym (whole-in-form n order on off (formed .0) (formed .1) (formed .2) (formed .3) r)

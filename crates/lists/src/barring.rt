@@ -8,7 +8,6 @@ ghost use Rattle.rules.specs.Words.{maxInputs};
 ghost use Rattle.rules.specs.Sheets.{clauses, wellFormed};
 ghost use Rattle.rules.specs.Answers.{over};
 ghost use Rattle.sheets.specs.Barred.{barred, pairsOf};
-
 use sheets::bar;
 
 // Writes off's barred rows and then on's over the first words of the run, and gives the count of off's.

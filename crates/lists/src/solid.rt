@@ -52,7 +52,13 @@ pub fn copy_solid(rows: &[u32], care: &mut [u32], value: &mut [u32]) -> usize
 }
 
 // The same, of the `count` rows behind the first `ons` rows of a run.
-pub fn copy_behind(kept: &[u32], ons: usize, count: usize, care: &mut [u32], value: &mut [u32]) -> usize
+pub fn copy_behind(
+    kept: &[u32],
+    ons: usize,
+    count: usize,
+    care: &mut [u32],
+    value: &mut [u32],
+) -> usize
     requires { ⌜ 2 * (ons + count) ≤ length (now kept) ⌝ }
     requires { ⌜ length (solid (behind ons count (now kept))) ≤ length (now care) ⌝ }
     requires { ⌜ length (solid (behind ons count (now kept))) ≤ length (now value) ⌝ }

@@ -50,9 +50,10 @@ returns : tie.Need-returns
 returns c =
     let e = c .before .before .before .before .copy-solid .ensures in
     let s = c .before .before .before .before .before .before .before .before .before .before .before in
-    let b = between-rows (s .args .kept .now) (s .args .ons) (s .args .count) (s .pre .0) in
-    (e .0 ∙ ap (λ (x : List Row). over (cares (solid x)) (s .args .care .now)) b,
-     (e .1 .0 ∙ ap (λ (x : List Row). over (values (solid x)) (s .args .value .now)) b, e .1 .1 ∙ ap (λ (x : List Row). length (solid x)) b))
+    let b = between-rows (s .args .kept .now) (s .args .ons) (s .args .count) (s .pre .0) in (
+      e .0 ∙ ap (λ (x : List Row). over (cares (solid x)) (s .args .care .now)) b,
+      (e .1 .0 ∙ ap (λ (x : List Row). over (values (solid x)) (s .args .value .now)) b, e .1 .1 ∙ ap (λ (x : List Row). length (solid x)) b),
+    )
 
 pub copy-behind-spec : {M : Type 1} → statement M
 copy-behind-spec =

@@ -14,17 +14,19 @@ use Rattle.rules.specs.declared.Refusal.{Refusal}
 use Rattle.rules.specs.Words.{isInputs, isOrder}
 use Rattle.rules.specs.Sheets.{maxClauses, wellFormed}
 use Rattle.rules.specs.Method.{maxRows, generated, complete, listOf}
-use Rattle.rules.specs.Answers.{Reply, answered, refusal, refusalReply, Verdict, given, refused, replyOf, over}
-use Rattle.rules.specs.Calls.{first, wordsOf, lent, collision, listValues, wholeFor, whole}
+use Rattle.rules.specs.Answers.{Reply, answered, refusal, refusalReply, Verdict, given, refused, replyOf, over, after}
+use Rattle.rules.specs.Calls.{first, wordsOf, lent, collision, listValues, cares, values, roomIn, wholeFor, whole}
 use Rattle.rules.proofs.Logic.{test, option}
+use Rattle.rules.proofs.Refusals.{whole-accepted}
 use Rattle.sheets.specs.Barred.{barred, pairsOf}
 use Rattle.search.proofs.Queries.{few-inputs}
 use Rattle.search.specs.Question.{good}
 use Rattle.lists.specs.declared.build.Built.{Built}
 use Rattle.lists.specs.declared.formed.Form.{Form}
+use Rattle.lists.specs.Blank.{solid}
 use Rattle.lists.specs.Formed.{formOf}
-use Rattle.lists.specs.Lent.{asks, firstRows}
-use Rattle.lists.specs.Built.{Lent, builtReply}
+use Rattle.lists.specs.Lent.{asks, firstRows, behind}
+use Rattle.lists.specs.Built.{Lent, builtReply, Stands}
 use Rattle.lists.proofs.Builds.{whole-in-form, collides, too-many, no-room, gives}
 use Rattle.lists.proofs.Forms.{form-good}
 use Rattle.lists.proofs.Lending as lending
@@ -102,3 +104,50 @@ module _ (n : ℕ) (order : List ℕ) (on off : List ℤ) (inForm : formOf n ord
       (ap (λ (x : List ℕ). asks x (firstRows ons kept)) isEmpty ∙ ap (good [] []) onFirst)
       (ap (λ (x : List ℕ). asks x (firstRows offs (take (2 * (offs + ons)) both))) isEmpty ∙ ap (good [] []) offFirst)
       ∙ sym (whole-in-form n order on off (formed .0) (formed .1) (formed .2) (formed .3) r)
+
+  -- What the call answers and leaves, by what was built.
+  module _ (care value : List ℕ) (r : ℕ) (isRoom : r ≡ roomIn care value) (built : Built) (words : List ℕ)
+      (reply : builtReply built ≡ replyOf listValues (wholeFor [] order (asks empty (firstRows ons kept)) (asks empty (firstRows offs (take (2 * (offs + ons)) both))) r))
+      (stands : Stands built ons words (listOf order (asks empty (firstRows ons kept)) (asks empty (firstRows offs (take (2 * (offs + ons)) both))))) where
+    abbrev rows : List Row
+    rows = listOf order (asks empty (firstRows ons kept)) (asks empty (firstRows offs (take (2 * (offs + ons)) both)))
+
+    abbrev outcome : Verdict (List Row)
+    outcome = whole n (lent order) (lent on) (lent off) (roomIn care value)
+
+    same : outcome ≡ wholeFor [] order (asks empty (firstRows ons kept)) (asks empty (firstRows offs (take (2 * (offs + ons)) both))) r
+    same = sym (asked-whole r ∙ ap (whole n (lent order) (lent on) (lent off)) isRoom)
+
+    verdict : Verdicts built rows (wholeFor [] order (asks empty (firstRows ons kept)) (asks empty (firstRows offs (take (2 * (offs + ons)) both))) r)
+    verdict = verdict-is order (asks empty (firstRows ons kept)) (asks empty (firstRows offs (take (2 * (offs + ons)) both))) r built reply
+
+    pub is-refused : (f : Refusal) → built ≡ Built.Refused f → outcome ≡ refused (refusalReply f)
+    is-refused f e = same ∙ subst (λ (x : Built). Verdicts x rows (wholeFor [] order (asks empty (firstRows ons kept)) (asks empty (firstRows offs (take (2 * (offs + ons)) both))) r)) e verdict
+
+    module _ (count made : ℕ) (e : built ≡ Built.Rows count made) where
+      told : Verdicts (Built.Rows count made) rows (wholeFor [] order (asks empty (firstRows ons kept)) (asks empty (firstRows offs (take (2 * (offs + ons)) both))) r)
+      told = subst (λ (x : Built). Verdicts x rows (wholeFor [] order (asks empty (firstRows ons kept)) (asks empty (firstRows offs (take (2 * (offs + ons)) both))) r)) e verdict
+
+      is-given : outcome ≡ given rows
+      is-given = same ∙ told .0
+
+      pub stood : (2 * (ons + made) ≤ length words) × (solid (behind ons made words) ≡ rows)
+      stood = subst (λ (x : Built). Stands x ons words rows) e stands
+
+      fits : length (solid (behind ons made words)) ≤ roomIn care value
+      fits = subst (λ (x : List Row). length x ≤ roomIn care value) (sym (stood .1)) (whole-accepted n (lent order) (lent on) (lent off) (roomIn care value) is-given .fits)
+
+      pub fits-care : length (solid (behind ons made words)) ≤ length care
+      fits-care = let a = fits in omega arith
+
+      pub fits-value : length (solid (behind ons made words)) ≤ length value
+      fits-value = let a = fits in omega arith
+
+      pub reply-count : answered (count ∷ []) ≡ replyOf listValues outcome
+      reply-count = ap (λ (k : ℕ). answered (k ∷ [])) (told .1) ∙ ap (replyOf listValues) (sym is-given)
+
+      pub left-care : over (cares (solid (behind ons made words))) care ≡ after cares outcome care
+      left-care = ap (λ (x : List Row). over (cares x) care) (stood .1) ∙ ap (λ (v : Verdict (List Row)). after cares v care) (sym is-given)
+
+      pub left-value : over (values (solid (behind ons made words))) value ≡ after values outcome value
+      left-value = ap (λ (x : List Row). over (values x) value) (stood .1) ∙ ap (λ (v : Verdict (List Row)). after values v value) (sym is-given)

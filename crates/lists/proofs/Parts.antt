@@ -2,7 +2,6 @@
 use mathlib.Core.Path.{_≡_, refl, sym, ap, ap₂, _∙_, subst}
 use mathlib.Core.Bool.{Bool, true}
 use mathlib.Core.List.{List, [], _∷_, _++_}
-use mathlib.Core.Option.{Option, none, some}
 use Prim.Native.Nat.{ℕ, _+_, _*_, _≤_}
 use native.Mathlib.Omega.{arith}
 use lib.Dec.{ltb}
@@ -12,7 +11,7 @@ use borrow.Author.Tests.{ltb-true, ltb-false, le-ltb}
 use Rattle.rules.specs.declared.Row.{Row}
 use Rattle.rules.specs.declared.Refusal.{Refusal}
 use Rattle.rules.specs.Words.{one, isInputs, isOrder}
-use Rattle.rules.specs.Sheets.{maxClauses, clauses, wellFormed}
+use Rattle.rules.specs.Sheets.{maxClauses, wellFormed}
 use Rattle.rules.specs.Method.{maxRows, generated, complete}
 use Rattle.rules.specs.Answers.{Reply, Verdict, given, refused, answered, refusal, refusalReply, replyOf, over, after}
 use Rattle.rules.specs.Calls.{lent, wordsOf, collision, Partial, partialFor, partialValues, partial}

@@ -15,17 +15,13 @@ use crate::build_part::build_part;
 use crate::formed::Form;
 use crate::formed::form_of;
 use crate::solid::copy_behind;
+use crate::whole::BOTH;
+use crate::whole::KEPT;
 use crate::whole::shorter;
 use rules::List;
 use rules::PartialAnswer;
 use rules::Refusal;
-use rules::Sheet;
 use sheets::bar;
-
-// Room for the barred rows of one sheet and the generated ones, and for the barred rows of both sheets: two words a row.
-const KEPT: usize = 2 * (Sheet::MAX_CLAUSES + List::MAX_ROWS);
-
-const BOTH: usize = 4 * Sheet::MAX_CLAUSES;
 
 // The same, of an input in form, with the runs that the rows are kept in.
 fn part_from_bars(

@@ -1,5 +1,5 @@
-use mathlib.Core.Path.{_≡_, refl, sym, ap, _∙_, subst}
-use Prim.Native.Nat.{ℕ, _+_, _*_, _≤_, min}
+use mathlib.Core.Path.{sym, ap, _∙_}
+use Prim.Native.Nat.{_+_, _*_, _≤_}
 use native.Mathlib.Nat.{min-le-left, min-le-right}
 use native.Mathlib.Omega.{arith}
 use lib.ListN.{length}
@@ -92,12 +92,14 @@ copy-behind-requires c κs =
     let b = t .before .before .before .before in
     let s = b .before .before .before .before .before .before .before .before in
     let a = s .args in
+    let ordered = ready (a .n) (a .order .now) (a .on .now) (a .off .now) (s .pre .0) _ (s .pre .1 .1 .0) _ _ _ _ _ _ (b .bar .ensures .1) (t .bar-both .ensures .1) (b .bar .ensures .0) (t .bar-both .ensures .0) (s .pre .1 .1 .1 .0) (s .pre .1 .1 .1 .1) .on-asked .ordered in
     let same = asked-part (a .n) (a .order .now) (a .on .now) (a .off .now) (s .pre .0) _ (s .pre .1 .1 .0) _ _ _ _ _ _ (b .bar .ensures .1) (t .bar-both .ensures .1) (b .bar .ensures .0) (t .bar-both .ensures .0) (s .pre .1 .1 .1 .0) (s .pre .1 .1 .1 .1) _ _ (s .pre .1 .0) ∙ ap (partial _ _ _ _ _) (h .shorter .ensures) in
-    let fits = part-fits _ _ _ _ _ _ same (p .build-part .result) (p .build-part .ensures .0) _ _ (c .before .before .before .before .built .given .1) _ _ (p .build-part .ensures .1) (ready (a .n) (a .order .now) (a .on .now) (a .off .now) (s .pre .0) _ (s .pre .1 .1 .0) _ _ _ _ _ _ (b .bar .ensures .1) (t .bar-both .ensures .1) (b .bar .ensures .0) (t .bar-both .ensures .0) (s .pre .1 .1 .1 .0) (s .pre .1 .1 .1 .1) .on-asked .ordered) in
-    let e = h .shorter .ensures in
+    let e = c .before .before .before .before .built .given .1 in
+    let fits = part-fits _ _ _ _ _ _ same (p .build-part .result) (p .build-part .ensures .0) _ _ e _ _ (p .build-part .ensures .1) ordered in
+    let few = h .shorter .ensures in
     let l = min-le-left (length (a .care .now)) (length (a .value .now)) in
     let r = min-le-right (length (a .care .now)) (length (a .value .now)) in
-    (part-stands _ _ _ _ _ _ same (p .build-part .result) (p .build-part .ensures .0) _ _ (c .before .before .before .before .built .given .1) _ _ (p .build-part .ensures .1) (ready (a .n) (a .order .now) (a .on .now) (a .off .now) (s .pre .0) _ (s .pre .1 .1 .0) _ _ _ _ _ _ (b .bar .ensures .1) (t .bar-both .ensures .1) (b .bar .ensures .0) (t .bar-both .ensures .0) (s .pre .1 .1 .1 .0) (s .pre .1 .1 .1 .1) .on-asked .ordered) .0, (omega (arith, fits), omega (arith, fits)))
+    (part-stands _ _ _ _ _ _ same (p .build-part .result) (p .build-part .ensures .0) _ _ e _ _ (p .build-part .ensures .1) ordered .0, (omega (arith, fits), omega (arith, fits)))
 
 enum-known-built-2 : tie.Need-enum-known-built-2
 enum-known-built-2 c = search needs
@@ -122,10 +124,12 @@ returns c =
     let b = t .before .before .before .before in
     let s = b .before .before .before .before .before .before .before .before in
     let a = s .args in
-    let same = asked-part (a .n) (a .order .now) (a .on .now) (a .off .now) (s .pre .0) _ (s .pre .1 .1 .0) _ _ _ _ _ _ (b .bar .ensures .1) (t .bar-both .ensures .1) (b .bar .ensures .0) (t .bar-both .ensures .0) (s .pre .1 .1 .1 .0) (s .pre .1 .1 .1 .1) _ _ (s .pre .1 .0) ∙ ap (partial _ _ _ _ _) (h .shorter .ensures) in (
-      sym (ap partReply (c .before .before .before .before .before .before .before .before .before .built .given .1)) ∙ part-reply _ _ _ _ _ _ same (p .build-part .result) (p .build-part .ensures .0),
-      (part-left _ _ _ _ _ _ same (p .build-part .result) (p .build-part .ensures .0) _ _ (c .before .before .before .before .before .before .before .before .before .built .given .1) _ _ (p .build-part .ensures .1) (ready (a .n) (a .order .now) (a .on .now) (a .off .now) (s .pre .0) _ (s .pre .1 .1 .0) _ _ _ _ _ _ (b .bar .ensures .1) (t .bar-both .ensures .1) (b .bar .ensures .0) (t .bar-both .ensures .0) (s .pre .1 .1 .1 .0) (s .pre .1 .1 .1 .1) .on-asked .ordered) cares _ _ (c .before .before .before .before .copy-behind .ensures .0), part-left _ _ _ _ _ _ same (p .build-part .result) (p .build-part .ensures .0) _ _ (c .before .before .before .before .before .before .before .before .before .built .given .1) _ _ (p .build-part .ensures .1) (ready (a .n) (a .order .now) (a .on .now) (a .off .now) (s .pre .0) _ (s .pre .1 .1 .0) _ _ _ _ _ _ (b .bar .ensures .1) (t .bar-both .ensures .1) (b .bar .ensures .0) (t .bar-both .ensures .0) (s .pre .1 .1 .1 .0) (s .pre .1 .1 .1 .1) .on-asked .ordered) values _ _ (c .before .before .before .before .copy-behind .ensures .1 .0)),
-    )
+    let ordered = ready (a .n) (a .order .now) (a .on .now) (a .off .now) (s .pre .0) _ (s .pre .1 .1 .0) _ _ _ _ _ _ (b .bar .ensures .1) (t .bar-both .ensures .1) (b .bar .ensures .0) (t .bar-both .ensures .0) (s .pre .1 .1 .1 .0) (s .pre .1 .1 .1 .1) .on-asked .ordered in
+    let same = asked-part (a .n) (a .order .now) (a .on .now) (a .off .now) (s .pre .0) _ (s .pre .1 .1 .0) _ _ _ _ _ _ (b .bar .ensures .1) (t .bar-both .ensures .1) (b .bar .ensures .0) (t .bar-both .ensures .0) (s .pre .1 .1 .1 .0) (s .pre .1 .1 .1 .1) _ _ (s .pre .1 .0) ∙ ap (partial _ _ _ _ _) (h .shorter .ensures) in
+    let e = c .before .before .before .before .before .before .before .before .before .built .given .1 in
+    let copied = c .before .before .before .before .copy-behind .ensures in
+    let left = part-left _ _ _ _ _ _ same (p .build-part .result) (p .build-part .ensures .0) _ _ e _ _ (p .build-part .ensures .1) ordered in
+    (sym (ap partReply e) ∙ part-reply _ _ _ _ _ _ same (p .build-part .result) (p .build-part .ensures .0), (left cares _ _ (copied .0), left values _ _ (copied .1 .0)))
 
 same-length-5 : tie.Need-same-length-5
 same-length-5 c = search needs
@@ -143,7 +147,8 @@ returns-2 c =
     let a = s .args in
     let same = asked-part (a .n) (a .order .now) (a .on .now) (a .off .now) (s .pre .0) _ (s .pre .1 .1 .0) _ _ _ _ _ _ (b .bar .ensures .1) (t .bar-both .ensures .1) (b .bar .ensures .0) (t .bar-both .ensures .0) (s .pre .1 .1 .1 .0) (s .pre .1 .1 .1 .1) _ _ (s .pre .1 .0) ∙ ap (partial _ _ _ _ _) (h .shorter .ensures) in
     let e = c .before .built2 .given .1 in
-    (sym (ap partReply e) ∙ part-reply _ _ _ _ _ _ same (p .build-part .result) (p .build-part .ensures .0), (part-leaves _ _ _ _ _ _ same (p .build-part .result) (p .build-part .ensures .0) _ e _ _, part-leaves _ _ _ _ _ _ same (p .build-part .result) (p .build-part .ensures .0) _ e _ _))
+    let left = part-leaves _ _ _ _ _ _ same (p .build-part .result) (p .build-part .ensures .0) _ e in
+    (sym (ap partReply e) ∙ part-reply _ _ _ _ _ _ same (p .build-part .result) (p .build-part .ensures .0), (left _ _, left _ _))
 
 pub part-from-bars-spec : {M : Type 1} → statement M
 part-from-bars-spec =

@@ -23,7 +23,7 @@ use Rattle.search.specs.Question.{good, caresWithin, Asked}
 use Rattle.lists.specs.Blank.{blanked, solid}
 use Rattle.lists.specs.Lent.{asks, firstRows, behind}
 use Rattle.lists.specs.Built.{Lent}
-use Rattle.lists.proofs.Blanks.{blanked-length}
+use Rattle.lists.proofs.Blanks.{blanked-length, solid-all}
 use Rattle.lists.proofs.Next.{collision-found}
 use Rattle.lists.proofs.Kept.{first-rows}
 use Rattle.lists.proofs.Judges.{rows-split, over-rows}
@@ -44,9 +44,6 @@ module _ (order on off both : List ℕ) (offs : ℕ) (old : List ℕ) (ons : ℕ
   abbrev offAt : ℕ → Bool
   offAt = asks off (firstRows offs both)
 
-  abbrev rows : List Row
-  rows = generated order onAt offAt maxRows
-
   isOrder : IsOrder (length order) order
   isOrder = is-order (length order) order (lent .on-asked .ordered)
 
@@ -61,72 +58,85 @@ module _ (order on off both : List ℕ) (offs : ℕ) (old : List ℕ) (ons : ℕ
   first-size : length (firstRows ons old) ≡ ons
   first-size = rows-split ons old (let h = lent .room in omega arith) .1
 
-  module _ (words : List ℕ) (count : ℕ) (stand : words ≡ over (pairsOf (firstRows ons old ++ rows)) old) (many : count ≡ length rows) where
+  -- the first k generated rows, as they are kept
+  module _ (k : ℕ) (allowed : k ≤ maxRows) where
+    abbrev rows : List Row
+    rows = generated order onAt offAt k
+
     all-rows : All (λ r. isRow (length order) r ≡ true) rows
-    all-rows = generated-rows (length order) order isOrder onAt offAt maxRows
+    all-rows = generated-rows (length order) order isOrder onAt offAt k
 
     few : length rows ≤ maxRows
-    few = size order onAt offAt maxRows .0
+    few = let h = size order onAt offAt k .0 in omega arith
 
-    total : length (firstRows ons old ++ rows) ≡ ons + count
-    total = length-append (firstRows ons old) rows ∙ (let e = first-size in let q : length (firstRows ons old) + length rows ≡ ons + count = omega arith in q)
+    module _ (words : List ℕ) (count : ℕ) (stand : words ≡ over (pairsOf (firstRows ons old ++ rows)) old) (many : count ≡ length rows) where
+      total : length (firstRows ons old ++ rows) ≡ ons + count
+      total = length-append (firstRows ons old) rows ∙ (let e = first-size in let q : length (firstRows ons old) + length rows ≡ ons + count = omega arith in q)
 
-    laid : words ≡ pairsOf (firstRows ons old ++ rows) ++ drop (2 * (ons + count)) old
-    laid = stand ∙ over-rows (firstRows ons old ++ rows) (ons + count) old total
+      laid : words ≡ pairsOf (firstRows ons old ++ rows) ++ drop (2 * (ons + count)) old
+      laid = stand ∙ over-rows (firstRows ons old ++ rows) (ons + count) old total
 
-    words-size : length words ≡ length old
-    words-size =
-        ap length stand
-        ∙ over-length (pairsOf (firstRows ons old ++ rows)) old
-        (let a = pairs-length (firstRows ons old ++ rows) in let b = total in let c = few in let d = lent .room in omega arith)
+      words-size : length words ≡ length old
+      words-size =
+          ap length stand
+          ∙ over-length (pairsOf (firstRows ons old ++ rows)) old
+          (let a = pairs-length (firstRows ons old ++ rows) in let b = total in let c = few in let d = lent .room in omega arith)
 
-    pub made-room : 2 * (ons + count) ≤ length words
-    made-room = let a = words-size in let b = few in let c = lent .room in omega arith
+      pub made-room : 2 * (ons + count) ≤ length words
+      made-room = let a = words-size in let b = few in let c = lent .room in omega arith
 
-    pub made-behind : behind ons count words ≡ rows
-    made-behind = ap (behind ons count) laid ∙ behind-rows (firstRows ons old) rows (drop (2 * (ons + count)) old) ons count first-size (sym many)
+      pub made-behind : behind ons count words ≡ rows
+      made-behind = ap (behind ons count) laid ∙ behind-rows (firstRows ons old) rows (drop (2 * (ons + count)) old) ons count first-size (sym many)
 
-    pub made-asked : Asked order [] [] (behind ons count words)
-    unfolding inReach
-    made-asked =
-        subst (Asked order [] []) (sym made-behind) (record {
-          ordered = lent .on-asked .ordered;
-          size = lent .on-asked .size;
-          reach-a = refl;
-          reach-b = refl;
-          cares = cares-of-rows (length order) rows all-rows;
-        })
+      pub made-asked : Asked order [] [] (behind ons count words)
+      unfolding inReach
+      made-asked =
+          subst (Asked order [] []) (sym made-behind) (record {
+            ordered = lent .on-asked .ordered;
+            size = lent .on-asked .size;
+            reach-a = refl;
+            reach-b = refl;
+            cares = cares-of-rows (length order) rows all-rows;
+          })
 
-    -- and what stays of it
-    module _ (stay : ℕ) (left : List ℕ) (staying : stay ≡ kept (marks all order (behind ons count words)))
-        (blanks : left ≡ over (pairsOf (firstRows ons words ++ blanked (marks all order (behind ons count words)) (behind ons count words))) words) where
-      pub stay-is : stay ≡ length (listOf order onAt offAt)
-      unfolding listOf
-      stay-is = staying ∙ ap (λ (x : List Row). kept (marks all order x)) made-behind ∙ sym (list-length order rows)
+      -- and what stays of them
+      module _ (stay : ℕ) (left : List ℕ) (staying : stay ≡ kept (marks all order (behind ons count words)))
+          (blanks : left ≡ over (pairsOf (firstRows ons words ++ blanked (marks all order (behind ons count words)) (behind ons count words))) words) where
+        pub stay-is : stay ≡ length (pruned all order rows)
+        stay-is = staying ∙ ap (λ (x : List Row). kept (marks all order x)) made-behind ∙ sym (list-length order rows)
 
-      new : List Row
-      new = blanked (marks all order (behind ons count words)) (behind ons count words)
+        new : List Row
+        new = blanked (marks all order (behind ons count words)) (behind ons count words)
 
-      new-size : length new ≡ count
-      unfolding new
-      new-size = blanked-length (marks all order (behind ons count words)) (behind ons count words) ∙ ap length made-behind ∙ sym many
+        new-size : length new ≡ count
+        unfolding new
+        new-size = blanked-length (marks all order (behind ons count words)) (behind ons count words) ∙ ap length made-behind ∙ sym many
 
-      front-size : length (firstRows ons words) ≡ ons
-      front-size = rows-split ons words (let a = made-room in omega arith) .1
+        front-size : length (firstRows ons words) ≡ ons
+        front-size = rows-split ons words (let a = made-room in omega arith) .1
 
-      both-size : length (firstRows ons words ++ new) ≡ ons + count
-      both-size = length-append (firstRows ons words) new ∙ (let a = front-size in let b = new-size in let q : length (firstRows ons words) + length new ≡ ons + count = omega arith in q)
+        both-size : length (firstRows ons words ++ new) ≡ ons + count
+        both-size = length-append (firstRows ons words) new ∙ (let a = front-size in let b = new-size in let q : length (firstRows ons words) + length new ≡ ons + count = omega arith in q)
 
-      left-laid : left ≡ pairsOf (firstRows ons words ++ new) ++ drop (2 * (ons + count)) words
-      unfolding new
-      left-laid = blanks ∙ over-rows (firstRows ons words ++ new) (ons + count) words both-size
+        left-laid : left ≡ pairsOf (firstRows ons words ++ new) ++ drop (2 * (ons + count)) words
+        unfolding new
+        left-laid = blanks ∙ over-rows (firstRows ons words ++ new) (ons + count) words both-size
 
-      pub list-stands : (2 * (ons + count) ≤ length left) × (solid (behind ons count left) ≡ listOf order onAt offAt)
-      unfolding listOf new
-      list-stands =
-          let s : length left ≡ length words = ap length blanks
-          ∙ over-length (pairsOf (firstRows ons words ++ new)) words (let a = pairs-length (firstRows ons words ++ new) in let b = both-size in let c = made-room in omega arith) in (
-            (let a = made-room in omega arith),
-            ap solid (ap (behind ons count) left-laid ∙ behind-rows (firstRows ons words) new (drop (2 * (ons + count)) words) ons count front-size new-size)
-                ∙ ap (λ (x : List Row). solid (blanked (marks all order x) x)) made-behind ∙ solid-list (length order) order rows all-rows,
-          )
+        pub left-stands : (2 * (ons + count) ≤ length left) × (solid (behind ons count left) ≡ pruned all order rows)
+        unfolding new
+        left-stands =
+            let s : length left ≡ length words = ap length blanks
+            ∙ over-length (pairsOf (firstRows ons words ++ new)) words (let a = pairs-length (firstRows ons words ++ new) in let b = both-size in let c = made-room in omega arith) in (
+              (let a = made-room in omega arith),
+              ap solid (ap (behind ons count) left-laid ∙ behind-rows (firstRows ons words) new (drop (2 * (ons + count)) words) ons count front-size new-size)
+                  ∙ ap (λ (x : List Row). solid (blanked (marks all order x) x)) made-behind ∙ solid-list (length order) order rows all-rows,
+            )
+
+-- A generated row is no blank.
+pub generated-solid : (n : ℕ) (order : List ℕ) → IsOrder n order → (on off : ℕ → Bool) (k : ℕ) → solid (generated order on off k) ≡ generated order on off k
+generated-solid n order o on off k = solid-all n (generated order on off k) (generated-rows n order o on off k)
+
+-- The list is what stays of the rows that generation may give.
+pub list-is : (order : List ℕ) (on off : ℕ → Bool) → pruned all order (generated order on off maxRows) ≡ listOf order on off
+unfolding listOf
+list-is order on off = refl

@@ -9,12 +9,12 @@ use lib.IntN.{ℤ}
 use lib.ListN.{length}
 use borrow.Author.Tests.{lt-ltb, le-ltb}
 use Rattle.rules.specs.declared.Row.{Row}
-use Rattle.rules.specs.Words.{isInputs, isOrder, inSome}
+use Rattle.rules.specs.Words.{isInputs, isOrder, inSome, one}
 use Rattle.rules.specs.Sheets.{satisfies, everyClause, wellFormed}
 use Rattle.rules.specs.Search.{found}
 use Rattle.rules.specs.Method.{maxRows, generated, complete, listOf}
 use Rattle.rules.specs.Answers.{Reply, Check, judge, Verdict, given, refused, refusal, answered, replyOf}
-use Rattle.rules.specs.Calls.{lent, collision, listed, listValues, wholeFor, whole, Partial, partialFor, partial}
+use Rattle.rules.specs.Calls.{lent, collision, listed, listValues, wholeFor, whole, Partial, partialFor, partial, partialValues}
 use Rattle.rules.proofs.Orders.{IsOrder, is-order}
 use Rattle.rules.proofs.Same.{Same, whole-same, partial-same}
 use Rattle.sheets.specs.Barred.{barred}
@@ -96,3 +96,19 @@ module _ (order : List ℕ) (on off : ℕ → Bool) (room : ℕ) where
       → (count : ℕ) → count ≡ length (listOf order on off) → count ≤ room → answered (count ∷ []) ≡ replyOf listValues (wholeFor [] order on off room)
   reply-gives e c count q h =
       ap (λ (n : ℕ). answered (n ∷ [])) q ∙ ap (replyOf listValues) (sym (gives order on off room e c (subst (λ (n : ℕ). n ≤ room) q h)))
+
+-- The replies of the first k generated rows.
+module _ (order : List ℕ) (on off : ℕ → Bool) (k room : ℕ) where
+  pub reply-collides-part : (s : ℕ) → collision order on off ≡ some s → record { number = 6; values = s ∷ [] } ≡ replyOf partialValues (partialFor [] order on off k room)
+  reply-collides-part s e = ap (replyOf partialValues) (sym (collides-part order on off k room s e))
+
+  pub reply-no-room-part : collision order on off ≡ none → (count : ℕ) → count ≡ length (generated order on off k) → room < count
+      → refusal 15 ≡ replyOf partialValues (partialFor [] order on off k room)
+  reply-no-room-part e count q h = ap (replyOf partialValues) (sym (no-room-part order on off k room e (subst (λ (n : ℕ). room < n) q h)))
+
+  pub reply-gives-part : collision order on off ≡ none → (count : ℕ) → count ≡ length (generated order on off k) → count ≤ room
+      → (whole : Bool) → whole ≡ complete order on (generated order on off k) → answered (count ∷ one whole ∷ []) ≡ replyOf partialValues (partialFor [] order on off k room)
+  reply-gives-part e count q h whole w =
+      ap (λ (n : ℕ). answered (n ∷ one whole ∷ [])) q
+      ∙ ap (λ (b : Bool). answered (length (generated order on off k) ∷ one b ∷ [])) w
+      ∙ ap (replyOf partialValues) (sym (gives-part order on off k room e (subst (λ (n : ℕ). n ≤ room) q h)))

@@ -2,14 +2,16 @@
 use mathlib.Core.Path.{_≡_, refl, sym, ap, _∙_}
 use mathlib.Core.Bool.{Bool, true, false, not, cond, _&&_}
 use mathlib.Core.List.{List, [], _∷_, _++_}
-use Prim.Native.Nat.{ℕ}
+use Prim.Native.Nat.{ℕ, _<_}
 use native.Mathlib.Omega.{arith}
 use lib.IntN.{ℤ}
+use borrow.Author.Tests.{lt-ltb}
 use Rattle.rules.specs.declared.Row.{Row}
 use Rattle.rules.specs.declared.Refusal.{Refusal}
 use Rattle.rules.specs.Words.{isInputs, isOrder}
 use Rattle.rules.specs.Sheets.{wellFormed}
-use Rattle.rules.specs.Answers.{Check, check, judge, Verdict, refused, refusalReply}
+use Rattle.rules.specs.Method.{maxRows}
+use Rattle.rules.specs.Answers.{Check, check, judge, Verdict, refused, refusal, refusalReply}
 use Rattle.rules.specs.Calls.{lent, wholeFor, whole, Partial, partialFor, partial}
 use Rattle.lists.specs.declared.formed.Form.{Form}
 use Rattle.lists.specs.Formed.{formOf}
@@ -49,3 +51,8 @@ module _ (n : ℕ) (order : List ℕ) (on off : List ℤ) where
   pub partial-refused : (k room : ℕ) (f : Refusal) → formOf n order on off ≡ Form.Refused f → partial n (lent order) (lent on) (lent off) k room ≡ refused (refusalReply f)
   unfolding partial partialFor
   partial-refused k room f e = refused-first (isInputs n) (isOrder n order) (wellFormed n on) (wellFormed n off) _ _ f e
+
+  -- more rows asked for than a list may have
+  pub partial-asked : (k room : ℕ) → formOf n order on off ≡ Form.Good → maxRows < k → partial n (lent order) (lent on) (lent off) k room ≡ refused (refusal 5)
+  unfolding partial partialFor judge
+  partial-asked k room e h = let a = form-good e in rw (a .0, a .1, a .2, a .3, lt-ltb maxRows k h)

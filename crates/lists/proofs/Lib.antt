@@ -13,3 +13,4 @@ pub mod Building
 pub mod Builds
 pub mod Forms
 pub mod Wholes
+pub mod Parts

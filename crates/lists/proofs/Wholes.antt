@@ -34,7 +34,7 @@ use Rattle.lists.proofs.Lending as lending
 number-of : (r s : Reply) → r ≡ s → r .number ≡ s .number
 number-of r s e = ap (λ (x : Reply). x .number) e
 
-refusal-some : (f : Refusal) → 1 ≤ refusalReply f .number
+pub refusal-some : (f : Refusal) → 1 ≤ refusalReply f .number
 refusal-some Refusal.Inputs = omega arith
 refusal-some Refusal.Order = omega arith
 refusal-some Refusal.OnSheet = omega arith

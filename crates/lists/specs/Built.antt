@@ -4,12 +4,14 @@ use mathlib.Core.List.{List, [], _∷_, _++_}
 use Prim.Native.Nat.{ℕ, _+_, _*_, _≤_}
 use lib.ListN.{length}
 use Rattle.rules.specs.declared.Row.{Row}
+use Rattle.rules.specs.Words.{one}
 use Rattle.rules.specs.Method.{maxRows}
 use Rattle.rules.specs.Answers.{Reply, answered, refusalReply}
 use Rattle.sheets.specs.Barred.{rowsOf}
 use Rattle.sheets.specs.Numbers.{numbersOf}
 use Rattle.search.specs.Question.{Asked}
 use Rattle.lists.specs.declared.build.Built.{Built}
+use Rattle.lists.specs.declared.build_part.Part.{Part}
 use Rattle.lists.specs.Blank.{solid}
 use Rattle.lists.specs.Lent.{firstRows, behind}
 
@@ -31,3 +33,12 @@ builtReply (Built.Refused f) = refusalReply f
 abbrev pub Stands : Built → ℕ → List ℕ → List Row → Type 0
 Stands (Built.Rows count generated) ons words rows = (2 * (ons + generated) ≤ length words) × (solid (behind ons generated words) ≡ rows)
 Stands (Built.Refused f) ons words rows = Unit {0}
+
+-- The count of the first generated rows and whether they are all, or the refusal; and the rows stand behind the first ons rows.
+abbrev pub partReply : Part → Reply
+partReply (Part.Rows count complete) = answered (count ∷ one complete ∷ [])
+partReply (Part.Refused f) = refusalReply f
+
+abbrev pub PartStands : Part → ℕ → List ℕ → List Row → Type 0
+PartStands (Part.Rows count complete) ons words rows = (2 * (ons + count) ≤ length words) × (behind ons count words ≡ rows)
+PartStands (Part.Refused f) ons words rows = Unit {0}

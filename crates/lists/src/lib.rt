@@ -1,6 +1,7 @@
 // The list: widening, generation and pruning over the one search, and the calls that give a list.
 
 // The calls.
+pub use partial::partial_list;
 pub use whole::whole_list;
 
 // The method on what is lent, for callers that lend a sheet in place: rows in a run of words, blanks where they went.
@@ -9,8 +10,10 @@ pub mod solid;
 
 // Pruning on a run of words.
 mod barring;
+mod build_part;
 mod formed;
 mod generate;
+mod partial;
 pub mod prune;
 mod put;
 mod whole;

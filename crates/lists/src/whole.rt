@@ -21,11 +21,11 @@ use rules::Sheet;
 use sheets::bar;
 
 // Room for the barred rows of one sheet and the generated ones, and for the barred rows of both sheets: two words a row.
-const KEPT: usize = 2 * (Sheet::MAX_CLAUSES + List::MAX_ROWS);
+pub const KEPT: usize = 2 * (Sheet::MAX_CLAUSES + List::MAX_ROWS);
 
-const BOTH: usize = 4 * Sheet::MAX_CLAUSES;
+pub const BOTH: usize = 4 * Sheet::MAX_CLAUSES;
 
-fn shorter(a: usize, b: usize) -> usize
+pub fn shorter(a: usize, b: usize) -> usize
     ensures { λ r. ⌜ r ≡ min a b ⌝ }
 {
     if a < b { a } else { b }

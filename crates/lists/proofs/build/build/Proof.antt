@@ -1,18 +1,23 @@
 use mathlib.Core.Path.{_≡_, refl, sym, ap, _∙_}
 use mathlib.Core.Bool.{Bool, true, false}
 use mathlib.Core.Option.{Option}
-use Prim.Native.Nat.{ℕ}
+use Prim.Native.Nat.{ℕ, _≤_}
 use native.Mathlib.Omega.{arith}
+use lib.ListN.{length}
 use lib.Seq.{length-take-le}
 use borrow.Author.Needs.{needs}
 use borrow.Author.Tests.{not-true, not-false}
+use Rattle.rules.specs.Method.{maxRows}
 use Rattle.search.specs.Question.{foundAs}
 use Rattle.lists.proofs.Builds.{reply-collides, reply-too-many, reply-no-room, reply-gives}
-use Rattle.lists.proofs.Building.{met-is, made-room, made-asked, stay-is, list-stands}
+use Rattle.lists.proofs.Building.{met-is, made-room, made-asked, stay-is, left-stands, list-is}
 use Rattle.lists.proofs.build.build.Statement.{statement}
 use Rattle.lists.proofs.build.build.Tie as tie
 use Rattle.lists.proofs.build.build.Reads as reads
 use Rattle.lists.proofs.build.build.Lts as lts
+
+all-rows : maxRows ≤ maxRows
+all-rows = omega arith
 
 dashes-requires : tie.Need-dashes-requires
 dashes-requires c κs = search needs
@@ -66,7 +71,7 @@ prune-behind-requires : tie.Need-prune-behind-requires
 prune-behind-requires c κs =
     let g = c .before .before .before .before .before .before in
     let s = g .before .before .before .before .before .before .before .before .before .before .before .before in
-    (refl, (made-asked _ _ _ _ _ _ _ (s .pre) _ _ (g .generate .ensures .0) (g .generate .ensures .1 .0), made-room _ _ _ _ _ _ _ (s .pre) _ _ (g .generate .ensures .0) (g .generate .ensures .1 .0)))
+    (refl, (made-asked _ _ _ _ _ _ _ (s .pre) _ all-rows _ _ (g .generate .ensures .0) (g .generate .ensures .1 .0), made-room _ _ _ _ _ _ _ (s .pre) _ all-rows _ _ (g .generate .ensures .0) (g .generate .ensures .1 .0)))
 
 same-length-2 : tie.Need-same-length-2
 same-length-2 c = search needs
@@ -82,7 +87,7 @@ returns-3 c =
     let s = d .before .before .before .before .before .before in
     let none = met-is _ _ _ _ _ _ _ (s .pre) _ (d .dashes .ensures) _ (f .find .ensures) ∙ ap foundAs (t .enum-told .given .1) in
     let whole = sym (g .generate .ensures .1 .1) ∙ not-false _ (e .if1 .left) in
-    let stay = stay-is _ _ _ _ _ _ _ (s .pre) _ _ (g .generate .ensures .0) (g .generate .ensures .1 .0) _ _ (p .prune-behind .ensures .1) (p .prune-behind .ensures .0) in
+    let stay = stay-is _ _ _ _ _ _ _ (s .pre) _ all-rows _ _ (g .generate .ensures .0) (g .generate .ensures .1 .0) _ _ (p .prune-behind .ensures .1) (p .prune-behind .ensures .0) ∙ ap length (list-is _ _ _) in
     (reply-no-room _ _ _ _ none whole _ stay (c .if2 .taken), tt)
 
 same-length-3 : tie.Need-same-length-3
@@ -99,10 +104,9 @@ returns-4 c =
     let s = d .before .before .before .before .before .before in
     let none = met-is _ _ _ _ _ _ _ (s .pre) _ (d .dashes .ensures) _ (f .find .ensures) ∙ ap foundAs (t .enum-told .given .1) in
     let whole = sym (g .generate .ensures .1 .1) ∙ not-false _ (e .if1 .left) in
-    let stay = stay-is _ _ _ _ _ _ _ (s .pre) _ _ (g .generate .ensures .0) (g .generate .ensures .1 .0) _ _ (p .prune-behind .ensures .1) (p .prune-behind .ensures .0) in (
-      reply-gives _ _ _ _ none whole _ stay (c .if2 .left),
-      list-stands _ _ _ _ _ _ _ (s .pre) _ _ (g .generate .ensures .0) (g .generate .ensures .1 .0) _ _ (p .prune-behind .ensures .1) (p .prune-behind .ensures .0),
-    )
+    let stay = stay-is _ _ _ _ _ _ _ (s .pre) _ all-rows _ _ (g .generate .ensures .0) (g .generate .ensures .1 .0) _ _ (p .prune-behind .ensures .1) (p .prune-behind .ensures .0) ∙ ap length (list-is _ _ _) in
+    let left = left-stands _ _ _ _ _ _ _ (s .pre) _ all-rows _ _ (g .generate .ensures .0) (g .generate .ensures .1 .0) _ _ (p .prune-behind .ensures .1) (p .prune-behind .ensures .0) in
+    (reply-gives _ _ _ _ none whole _ stay (c .if2 .left), (left .0, left .1 ∙ list-is _ _ _))
 
 pub build-spec : {M : Type 1} → statement M
 build-spec =

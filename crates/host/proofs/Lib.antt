@@ -1,0 +1,4 @@
+-- Of a given list only its first rows count; words in bytes, one after another; orders in bytes.
+pub mod FirstRows
+pub mod Bytes
+pub mod Orders

@@ -8,7 +8,8 @@ ghost use Rattle.sheets.specs.Barred.{rowsOf};
 ghost use Rattle.lists.specs.Blank.{isBlank, solid};
 use rules::Row;
 
-fn is_blank(row: Row) -> bool
+// A blank is no row of a list.
+pub fn is_blank(row: Row) -> bool
     ensures { λ r. ⌜ r ≡ isBlank row ⌝ }
 {
     row.care == 0 && row.value == 1

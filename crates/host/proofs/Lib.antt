@@ -2,3 +2,4 @@
 pub mod FirstRows
 pub mod Bytes
 pub mod Orders
+pub mod Copies

@@ -7,8 +7,7 @@ use native.Mathlib.Omega.{arith}
 use lib.ListN.{length, take, drop, set, length-append}
 use lib.Seq.{take-at, length-take-le, sets-eq}
 use Rattle.rules.specs.Answers.{over}
-use Rattle.rules.specs.Calls.{wordsOf, bytesOf}
-use Rattle.sheets.proofs.Bytes.{words-length}
+use Rattle.rules.specs.Calls.{bytesOf}
 use Rattle.pla.specs.Put.{put, Room, Puts}
 use Rattle.pla.proofs.Positions.{puts-then, puts-over}
 

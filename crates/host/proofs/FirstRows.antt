@@ -5,7 +5,7 @@ use Prim.Native.Nat.{ℕ, zero, suc, _≤_}
 use native.Mathlib.Omega.{arith}
 use lib.Dec.{leb}
 use lib.ListN.{length, take}
-use lib.Seq.{take-nil, take-take, length-take-le}
+use lib.Seq.{take-take, length-take-le}
 use borrow.Author.Tests.{le-leb}
 use Rattle.rules.specs.declared.Row.{Row}
 use Rattle.rules.specs.Calls.{rowsIn, write}

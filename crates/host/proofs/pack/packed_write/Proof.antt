@@ -6,8 +6,6 @@ use Rattle.rules.specs.Answers.{writeReply}
 use Rattle.rules.specs.Calls.{packed}
 use Rattle.host.proofs.pack.packed_write.Statement.{statement}
 use Rattle.host.proofs.pack.packed_write.Tie as tie
-use Rattle.host.proofs.pack.packed_write.Reads as reads
-use Rattle.host.proofs.pack.packed_write.Lts as lts
 
 -- what the answer is told to be
 told : {a b : WriteAnswer} → a ≡ b → packed (writeReply a) ≡ packed (writeReply b)

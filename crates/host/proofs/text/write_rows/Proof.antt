@@ -1,12 +1,11 @@
 -- The copies have the first words of the lent bytes at their start.
 use mathlib.Core.Path.{_≡_, ap, _∙_}
-use mathlib.Core.List.{List, [], _∷_}
+use mathlib.Core.List.{List}
 use Prim.Native.Nat.{ℕ, _≤_}
 use native.Mathlib.Omega.{arith}
 use denote.Ref.{now}
 use lib.ListN.{length, take, length-take}
 use borrow.Author.Needs.{needs}
-use Rattle.rules.specs.Answers.{replyOf, after}
 use Rattle.rules.specs.Calls.{wordsOf, rowsIn, write, hostWrite}
 use Rattle.sheets.proofs.Bytes.{words-length}
 use Rattle.host.proofs.FirstRows.{write-copied}

@@ -18,7 +18,7 @@ mul-if1 c = search needs
 returns : tie.Need-returns
 returns c =
     let a = c .before .before .before .args in
-    (other-length (a .n) (now (a .order)) (c .if1 .taken), λ q. clash q refl)
+    (other-length (a .n) (now (a .order)) (λ e. omega arith), λ q. clash q refl)
 
 copy-words-requires : tie.Need-copy-words-requires
 copy-words-requires c κs = search needs

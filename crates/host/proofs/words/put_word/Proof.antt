@@ -6,9 +6,6 @@ use borrow.Author.Needs.{needs}
 use Rattle.host.proofs.Bytes.{word-put}
 use Rattle.host.proofs.words.put_word.Statement.{statement}
 use Rattle.host.proofs.words.put_word.Tie as tie
-use Rattle.host.proofs.words.put_word.Reads as reads
-use Rattle.host.proofs.words.put_word.Lts as lts
-use Rattle.host.proofs.words.low.Reads as low-reads
 
 mul-at : tie.Need-mul-at
 mul-at c = search needs

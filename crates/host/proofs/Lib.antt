@@ -3,3 +3,5 @@ pub mod FirstRows
 pub mod Bytes
 pub mod Orders
 pub mod Copies
+pub mod Replies
+pub mod InPlace

@@ -3,4 +3,5 @@
 mod copy;
 mod pack;
 mod text;
+mod whole;
 mod words;

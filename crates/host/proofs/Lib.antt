@@ -5,3 +5,4 @@ pub mod Orders
 pub mod Copies
 pub mod Replies
 pub mod InPlace
+pub mod InForm

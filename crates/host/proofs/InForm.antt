@@ -1,14 +1,12 @@
 -- The refusals that look at the input's form, in runs of bytes; and an input in form.
 use mathlib.Core.Path.{_≡_, refl, sym, ap, _∙_, subst}
-use mathlib.Core.Bool.{Bool, true, false, not, _&&_}
-use mathlib.Core.List.{List, [], _∷_, _++_}
+use mathlib.Core.Bool.{true, false, not, _&&_}
+use mathlib.Core.List.{List, []}
 use Prim.Native.Nat.{ℕ, _≤_}
-use native.Mathlib.Omega.{arith}
 use lib.IntN.{ℤ}
 use lib.ListN.{length}
-use Rattle.rules.specs.declared.Row.{Row}
 use Rattle.rules.specs.Words.{maxInputs, isInputs, isOrder}
-use Rattle.rules.specs.Sheets.{wellFormed, satisfies, inReach}
+use Rattle.rules.specs.Sheets.{wellFormed, satisfies}
 use Rattle.rules.specs.Answers.{judge, refused, refusal}
 use Rattle.rules.specs.Calls.{Run, lent, wordsOf, noneLeftOver, lentWords, lentNumbers, roomIn, wholeFor, whole, hostWhole}
 use Rattle.rules.proofs.Logic.{and-both}

@@ -1,7 +1,7 @@
 -- Sheets that are read where they lie: no row is kept for their clauses.
 use mathlib.Core.Path.{_≡_, refl, sym, ap, ap₂, _∙_, subst}
-use mathlib.Core.Bool.{Bool, true, _&&_, and-true}
-use mathlib.Core.List.{List, [], _∷_, _++_}
+use mathlib.Core.Bool.{Bool, and-true}
+use mathlib.Core.List.{List, [], _∷_}
 use Prim.Native.Nat.{ℕ, _*_, _/_, _≤_, min}
 use native.Mathlib.Nat.{zero-add}
 use native.Mathlib.Omega.{arith}
@@ -14,7 +14,7 @@ use Rattle.rules.specs.Method.{maxRows, listOf}
 use Rattle.rules.specs.Answers.{Verdict, given, answered, refusalReply, replyOf, after, over}
 use Rattle.rules.specs.Calls.{wordsOf, listValues, roomIn, wholeFor}
 use Rattle.rules.proofs.Orders.{is-order}
-use Rattle.rules.proofs.Same.{Same, whole-same, list-same}
+use Rattle.rules.proofs.Same.{whole-same, list-same}
 use Rattle.sheets.specs.Barred.{rowsOf}
 use Rattle.sheets.specs.Numbers.{numbersOf}
 use Rattle.sheets.proofs.Bytes.{words-length}

@@ -1,7 +1,7 @@
 -- What the reply of list building says of its verdict.
-use mathlib.Core.Path.{_≡_, refl, sym, ap, _∙_}
-use mathlib.Core.Bool.{true, _&&_}
-use mathlib.Core.List.{List, [], _∷_, _++_}
+use mathlib.Core.Path.{_≡_, refl, ap, _∙_}
+use mathlib.Core.Bool.{Bool, true}
+use mathlib.Core.List.{List, [], _∷_}
 use Prim.Native.Nat.{ℕ, _≤_}
 use native.Mathlib.Omega.{arith}
 use lib.Dec.{ltb}
@@ -16,7 +16,6 @@ use Rattle.rules.specs.Calls.{listValues, refusal6, refusal7, refusal15, wholeF
 use Rattle.rules.proofs.Logic.{test, and-both}
 use Rattle.rules.proofs.Judged.{NoneApply, ascendFrom, judge-none, judge-applies, judge-passes}
 use Rattle.rules.proofs.Sole.{list-sole}
-use mathlib.Core.Bool.{Bool}
 
 -- A reply of number 0 is no refusal's.
 pub answered-none : {A : Type 0} (values : A → List ℕ) (vs : List ℕ) (k : ℕ) (cs : List Check) (a : A) → ascendFrom k cs ≡ true

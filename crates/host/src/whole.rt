@@ -5,7 +5,7 @@ ghost use Prim.Native.Nat.{_*_, _≤_, min};
 ghost use lib.ListN.{length};
 ghost use Rattle.rules.specs.Method.{maxRows};
 ghost use Rattle.rules.specs.Answers.{listReply, replyOf, after};
-ghost use Rattle.rules.specs.Calls.{hostWhole, listValues, packed};
+ghost use Rattle.rules.specs.Calls.{bytesOf, cares, values, hostWhole, listValues, packed};
 ghost use Rattle.sheets.specs.Numbers.{numbersOf};
 ghost use Rattle.search.specs.Question.{Asked};
 ghost use Rattle.host.specs.Formed.{formedWhole, careBytes, valueBytes};
@@ -31,8 +31,8 @@ pub extern "C" fn glimmeldoek_list(
     value: &mut [u8],
 ) -> u64
     ensures { λ r. ⌜ r ≡ packed (replyOf listValues (hostWhole n (now (order .entry)) (now (on .entry)) (now (off .entry)) (now (care .entry)) (now (value .entry)))) ⌝ }
-    ensures { λ _. ⌜ now (care .exit) ≡ after careBytes (hostWhole n (now (order .entry)) (now (on .entry)) (now (off .entry)) (now (care .entry)) (now (value .entry))) (now (care .entry)) ⌝ }
-    ensures { λ _. ⌜ now (value .exit) ≡ after valueBytes (hostWhole n (now (order .entry)) (now (on .entry)) (now (off .entry)) (now (care .entry)) (now (value .entry))) (now (value .entry)) ⌝ }
+    ensures { λ _. ⌜ now (care .exit) ≡ after (λ rows. bytesOf (cares rows)) (hostWhole n (now (order .entry)) (now (on .entry)) (now (off .entry)) (now (care .entry)) (now (value .entry))) (now (care .entry)) ⌝ }
+    ensures { λ _. ⌜ now (value .exit) ≡ after (λ rows. bytesOf (values rows)) (hostWhole n (now (order .entry)) (now (on .entry)) (now (off .entry)) (now (care .entry)) (now (value .entry))) (now (value .entry)) ⌝ }
 {
     packed_list(list(n, order, on, off, care, value))
 }

@@ -5,9 +5,8 @@ pub mod build;
 pub mod solid;
 
 // Pruning on a run of words.
-pub mod prune;
-
 mod formed;
 mod generate;
+pub mod prune;
 mod put;
 mod widen;

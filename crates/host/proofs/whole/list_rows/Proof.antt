@@ -1,23 +1,14 @@
-use mathlib.Core.Path.{_≡_, sym}
+use mathlib.Core.Path.{sym}
 use mathlib.Core.List.{List}
-use Prim.Native.Nat.{ℕ, _*_, _/_, _≤_}
+use Prim.Native.Nat.{ℕ}
 use native.Mathlib.Omega.{arith}
 use denote.Ref.{now}
-use lib.ListN.{length, take}
 use lib.Seq.{length-take-le}
-use Rattle.sheets.specs.Barred.{rowsOf}
-use Rattle.lists.specs.Blank.{solid}
 use borrow.Author.Needs.{needs}
-use Rattle.lists.specs.declared.build.Built.{Built}
 use Rattle.host.specs.Formed.{careBytes, valueBytes}
 use Rattle.host.proofs.InPlace.{sheets-lent, Built-from, within, rows-fit, count-is, cells-are, refusal-is, refusal-keeps}
 use Rattle.host.proofs.whole.list_rows.Statement.{statement}
 use Rattle.host.proofs.whole.list_rows.Tie as tie
-use Rattle.host.proofs.whole.list_rows.Reads as reads
-use Rattle.host.proofs.whole.list_rows.Lts as lts
-use Rattle.host.proofs.copy.copy_bytes.Reads as copy-bytes-reads
-use Rattle.host.proofs.whole.shorter.Reads as shorter-reads
-use Rattle.lists.proofs.build.build.Reads as build-reads
 
 -- the function's entry, and what building leaves in the run of rows
 abbrev start : tie.After-build → tie.Start

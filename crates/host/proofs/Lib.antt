@@ -2,3 +2,7 @@
 pub mod FirstRows
 pub mod Bytes
 pub mod Orders
+pub mod Copies
+pub mod Replies
+pub mod InPlace
+pub mod InForm

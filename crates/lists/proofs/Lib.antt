@@ -4,6 +4,7 @@ pub mod Next
 pub mod Kept
 pub mod Judges
 pub mod Prunes
+pub mod Taking
 pub mod Copies
 pub mod Widens
 pub mod Generates

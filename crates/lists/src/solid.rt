@@ -9,7 +9,8 @@ ghost use Rattle.lists.specs.Blank.{isBlank, solid};
 ghost use Rattle.lists.specs.Lent.{behind};
 use rules::Row;
 
-fn is_blank(row: Row) -> bool
+// A blank is no row of a list.
+pub fn is_blank(row: Row) -> bool
     ensures { λ r. ⌜ r ≡ isBlank row ⌝ }
 {
     row.care == 0 && row.value == 1

@@ -1,5 +1,6 @@
 // The calls as a program in another language can make them, to compare and to measure. A reply comes back in one number.
 mod given_lists;
 mod pack;
+mod partial;
 mod query;
 mod whole;

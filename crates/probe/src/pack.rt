@@ -2,10 +2,11 @@
 ghost use mathlib.Core.Path.{_≡_};
 ghost use Prim.Native.Nat.{_+_, _*_, _<_};
 ghost use Rattle.rules.specs.Words.{one};
-ghost use Rattle.rules.specs.Answers.{refusalReply, queryReply, valueReply, writeReply, listReply};
+ghost use Rattle.rules.specs.Answers.{refusalReply, queryReply, valueReply, writeReply, listReply, partialReply};
 ghost use Rattle.rules.specs.Calls.{first};
 ghost use Rattle.probe.specs.Packed.{packed, packedCounts};
 use rules::ListAnswer;
+use rules::PartialAnswer;
 use rules::QueryAnswer;
 use rules::Refusal;
 use rules::Setting;
@@ -97,5 +98,16 @@ pub fn list_reply(a: ListAnswer) -> u64
     match a {
         ListAnswer::Rows(count) => ONE + (count % 4294967296) as u64,
         ListAnswer::Refused(f) => refusal_counts(f),
+    }
+}
+
+pub fn partial_reply(a: PartialAnswer) -> u64
+    ensures { λ r. ⌜ r ≡ packedCounts (partialReply a) ⌝ }
+{
+    match a {
+        PartialAnswer::Rows(count, complete) => 2 * ONE
+            + wide(one(complete)) * 4294967296
+            + (count % 4294967296) as u64,
+        PartialAnswer::Refused(f) => refusal_counts(f),
     }
 }

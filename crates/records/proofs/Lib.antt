@@ -1,0 +1,4 @@
+-- Laws behind pruning where the rows stand, by subject.
+pub mod Laid
+pub mod Judged
+pub mod Verdict

@@ -1,0 +1,2 @@
+-- What pruning leaves in a lent run.
+pub mod Words

@@ -2,3 +2,6 @@
 pub mod Laid
 pub mod Judged
 pub mod Verdict
+pub mod Copied
+pub mod Written
+pub mod Planned

@@ -1,5 +1,5 @@
 // Pruning of a hand-made list: a lent run of cube records, each marked kept or dropped where it stands.
-mod words;
-
-// The core, on runs of words.
-pub use words::prune_words;
+// The records' words are copied out, pruned on runs of words, and the marks written back.
+pub mod cubes;
+mod plan;
+pub mod words;

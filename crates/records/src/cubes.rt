@@ -1,0 +1,46 @@
+// A run of cube records is pruned where it stands.
+ghost use mathlib.Core.Path.{_≡_};
+ghost use Prim.Native.Nat.{_≤_};
+ghost use lib.ListN.{length};
+ghost use Rattle.rules.specs.Method.{maxRows};
+ghost use Rattle.records.specs.Steps.{markedTo, wordsTo};
+use crate::plan::Plan;
+use crate::plan::Words;
+use crate::plan::is_dropped;
+use crate::plan::with_row;
+
+// A row, and whether pruning dropped it.
+pub struct Cube {
+    pub care: u32,
+    pub value: u32,
+    pub dropped: bool,
+}
+
+// The words of the first `count` records.
+fn words_of(records: &mut [Cube], count: usize, w: Words) -> Words
+    requires { ⌜ (count ≤ length (now records)) × (count ≤ maxRows) ⌝ }
+    ensures { λ r. ⌜ (r ≡ wordsTo (now (records .entry)) w count) × (now (records .exit) ≡ now (records .entry)) ⌝ }
+{
+    let mut out = w;
+    let mut i: usize = 0;
+    while i < count {
+        let c = records[i].care;
+        let v = records[i].value;
+        out = with_row(out, i, c, v);
+        i = i + 1;
+    }
+    out
+}
+
+// Writes the marks of the first `count` records.
+fn write_marks(records: &mut [Cube], plan: Plan, count: usize)
+    requires { ⌜ (count ≤ length (now records)) × (count ≤ maxRows) ⌝ }
+    ensures { λ _. ⌜ now (records .exit) ≡ markedTo (now (records .entry)) (plan .dropped) count ⌝ }
+{
+    let mut i: usize = 0;
+    while i < count {
+        let d = is_dropped(plan, i);
+        records[i].dropped = d;
+        i = i + 1;
+    }
+}

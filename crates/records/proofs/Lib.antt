@@ -5,3 +5,5 @@ pub mod Verdict
 pub mod Copied
 pub mod Written
 pub mod Planned
+pub mod Pruned
+mod Again

@@ -1,14 +1,19 @@
 -- The steps between records and words: the words of the first records copied out, and their marks written back.
 use mathlib.Core.Bool.{Bool, false, cond, _&&_}
-use mathlib.Core.List.{List}
-use Prim.Native.Nat.{ℕ, zero, suc}
+use mathlib.Core.List.{List, [], _∷_}
+use mathlib.Core.Path.{_≡_}
+use Prim.Native.Nat.{ℕ, zero, suc, _≤_}
 use lib.Dec.{eqb, leb}
-use lib.ListN.{getD, set}
+use lib.ListN.{getD, length, set, take}
 use Rattle.rules.specs.Method.{maxRows}
+use Rattle.rules.specs.Answers.{Verdict, pruneReply, replyOf}
+use Rattle.rules.specs.Calls.{kept}
 use Rattle.rules.specs.declared.PruneAnswer.{PruneAnswer}
 use Rattle.records.specs.declared.cubes.Cube.{Cube}
+use Rattle.records.specs.declared.plan.Plan.{Plan}
 use Rattle.records.specs.declared.plan.Words.{Words}
 use Rattle.records.specs.Marks.{withMark}
+use Rattle.records.specs.Words.{gone}
 
 abbrev pub noCube : Cube
 noCube = record { care = 0; value = 0; dropped = false }
@@ -41,3 +46,10 @@ stopOf room count = cond (leb count room && leb count maxRows) count 0
 abbrev pub marksIn : PruneAnswer → ℕ → ℕ
 marksIn (PruneAnswer.Kept k) count = count
 marksIn (PruneAnswer.Refused f) count = 0
+
+-- what pruning made of the words: the verdict's answer, and the marks of the rows that go
+pub record Planned (v : Verdict (List Bool)) (stop : ℕ) (plan : Plan) : Type 0 where
+  pub told : pruneReply (plan .answer) ≡ replyOf (λ m. kept m ∷ []) v
+  pub few : plan .marks ≤ stop
+  pub first : take (plan .marks) (plan .dropped) ≡ gone v
+  pub size : length (plan .dropped) ≡ maxRows

@@ -1,13 +1,23 @@
 // A run of cube records is pruned where it stands.
+ghost use mathlib.Core.List.{[], _∷_, map};
 ghost use mathlib.Core.Path.{_≡_};
 ghost use Prim.Native.Nat.{_≤_};
 ghost use lib.ListN.{length};
 ghost use Rattle.rules.specs.Method.{maxRows};
+ghost use Rattle.rules.specs.Answers.{pruneReply, replyOf};
+ghost use Rattle.rules.specs.Calls.{kept, prune};
+ghost use Rattle.records.specs.Marks.{marked, rowOf};
 ghost use Rattle.records.specs.Steps.{markedTo, wordsTo};
 use crate::plan::Plan;
 use crate::plan::Words;
+use crate::plan::answer_of;
+use crate::plan::blank_words;
 use crate::plan::is_dropped;
+use crate::plan::marks_of;
+use crate::plan::plan_of;
+use crate::plan::stop_of;
 use crate::plan::with_row;
+use rules::PruneAnswer;
 
 // A row, and whether pruning dropped it.
 pub struct Cube {
@@ -43,4 +53,19 @@ fn write_marks(records: &mut [Cube], plan: Plan, count: usize)
         records[i].dropped = d;
         i = i + 1;
     }
+}
+
+// Prunes the first `count` records: each is marked kept or dropped where it stands. The answer is the number kept, or the refusal.
+pub fn prune_records(n: u32, records: &mut [Cube], count: usize) -> PruneAnswer
+    ensures { λ r. ⌜ (pruneReply r ≡ replyOf (λ m. kept m ∷ []) (prune n count (map rowOf (now (records .entry)))))
+        × (now (records .exit) ≡ marked (prune n count (map rowOf (now (records .entry)))) (now (records .entry))) ⌝ }
+{
+    let room = records.len();
+    let stop = stop_of(room, count);
+    let b = blank_words();
+    let w = words_of(records, stop, b);
+    let p = plan_of(n, count, stop, w);
+    let k = marks_of(p);
+    write_marks(records, p, k);
+    answer_of(p)
 }

@@ -1,14 +1,10 @@
 // What is passed by value between the records and the core: the words copied out, and what pruning makes of them.
 ghost use mathlib.Core.Path.{_≡_};
-ghost use mathlib.Core.List.{[], _∷_};
 ghost use Prim.Native.Nat.{_<_, _≤_};
-ghost use lib.Dec.{eqb};
-ghost use lib.ListN.{getD, length, take};
+ghost use lib.ListN.{length, take};
 ghost use Rattle.rules.specs.Method.{maxRows};
-ghost use Rattle.rules.specs.Answers.{pruneReply, replyOf};
-ghost use Rattle.rules.specs.Calls.{kept, prune, rowsIn};
-ghost use Rattle.records.specs.Words.{gone};
-ghost use Rattle.records.specs.Steps.{isMarked, marksIn, putRow, stopOf};
+ghost use Rattle.rules.specs.Calls.{prune, rowsIn};
+ghost use Rattle.records.specs.Steps.{Planned, isMarked, marksIn, putRow, stopOf};
 use crate::words::prune_words;
 use rules::List;
 use rules::PruneAnswer;
@@ -70,9 +66,7 @@ fn marks_in(answer: PruneAnswer, count: usize) -> usize
 
 pub fn plan_of(n: u32, count: usize, stop: usize, w: Words) -> Plan
     requires { ⌜ (stop ≤ maxRows) × ((length (w .care) ≡ maxRows) × (length (w .value) ≡ maxRows)) ⌝ }
-    ensures { λ r. ⌜ pruneReply (r .answer) ≡ replyOf (λ m. kept m ∷ []) (prune n count (rowsIn (take stop (w .care)) (take stop (w .value)))) ⌝ }
-    ensures { λ r. ⌜ (r .marks ≤ stop) × (take (r .marks) (r .dropped) ≡ gone (prune n count (rowsIn (take stop (w .care)) (take stop (w .value))))) ⌝ }
-    ensures { λ r. ⌜ length (r .dropped) ≡ maxRows ⌝ }
+    ensures { λ r. ⌜ Planned (prune n count (rowsIn (take stop (w .care)) (take stop (w .value)))) stop r ⌝ }
 {
     let care = w.care;
     let value = w.value;

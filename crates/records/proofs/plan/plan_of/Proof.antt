@@ -42,7 +42,12 @@ returns c =
     let few = rows-most (take (s .args .stop) (s .args .w .care)) (take (s .args .stop) (s .args .w .value)) .0 in
     let cut : length (take (s .args .stop) (s .args .w .care)) ≤ s .args .stop = simp length-take (omega arith) in
     let within : c .marks-in .result ≤ s .args .stop = omega (arith, c .marks-in .ensures, m .0) in
-    (p .ensures .0, ((within, ap (λ (k : ℕ). take k (p .last .1 .1 .1 .1 .0)) (c .marks-in .ensures) ∙ m .1), p .kept .1 .1 .1 .1 .0))
+    record {
+      told = p .ensures .0;
+      few = within;
+      first = ap (λ (k : ℕ). take k (p .last .1 .1 .1 .1 .0)) (c .marks-in .ensures) ∙ m .1;
+      size = p .kept .1 .1 .1 .1 .0;
+    }
 
 pub plan-of-spec : {M : Type 1} → statement M
 plan-of-spec =

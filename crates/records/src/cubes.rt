@@ -69,3 +69,25 @@ pub fn prune_records(n: u32, records: &mut [Cube], count: usize) -> PruneAnswer
     write_marks(records, p, k);
     answer_of(p)
 }
+
+// The answer, and the records after the call.
+pub struct Pruned {
+    pub answer: PruneAnswer,
+    pub records: [Cube; 256],
+}
+
+fn pruned_of(answer: PruneAnswer, records: [Cube; 256]) -> Pruned
+    ensures { λ r. ⌜ (r .answer ≡ answer) × (r .records ≡ records) ⌝ }
+{
+    Pruned { answer, records }
+}
+
+// By value: an array of records goes in and comes back.
+pub fn pruned_array(n: u32, records: [Cube; 256], count: usize) -> Pruned
+    ensures { λ r. ⌜ (pruneReply (r .answer) ≡ replyOf (λ m. kept m ∷ []) (prune n count (map rowOf records)))
+        × (r .records ≡ marked (prune n count (map rowOf records)) records) ⌝ }
+{
+    let mut b = records;
+    let answer = prune_records(n, &mut b, count);
+    pruned_of(answer, b)
+}

@@ -59,7 +59,7 @@ blanked-length (x ∷ m) [] = refl
 blanked-length (x ∷ m) (r ∷ rows) = ap suc (blanked-length m rows)
 
 -- The rows left are those picked.
-row-solid : (n : ℕ) (r : Row) → isRow n r ≡ true → isBlank r ≡ false
+pub row-solid : (n : ℕ) (r : Row) → isRow n r ≡ true → isBlank r ≡ false
 row-solid n r w =
     let b = and-both (fits n (r .care)) (holds r (r .value)) w in
     fails (λ h. let e = and-both (eqb (r .care) 0) (eqb (r .value) 1) h in

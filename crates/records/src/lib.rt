@@ -1,0 +1,14 @@
+// Pruning of a hand-made list: a lent run of cube records, each marked kept or dropped where it stands.
+// The records' words are copied out, pruned on runs of words, and the marks written back.
+mod cubes;
+mod plan;
+mod words;
+
+// On records, lent or by value.
+pub use cubes::Cube;
+pub use cubes::Pruned;
+pub use cubes::prune_records;
+pub use cubes::pruned_array;
+
+// On runs of words.
+pub use words::prune_words;

@@ -1,0 +1,2 @@
+-- The laws of a refusal's line.
+pub mod Lines

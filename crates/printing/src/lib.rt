@@ -1,0 +1,2 @@
+// What the program prints for two texts.
+mod line;

@@ -8,6 +8,8 @@ pub mod Copies
 pub mod Widens
 pub mod Generates
 pub mod Standing
+pub mod Lending
 pub mod Building
 pub mod Builds
 pub mod Forms
+pub mod Wholes

@@ -145,3 +145,11 @@ module _ (ws : List ℕ) (m k : ℕ) (room : 2 * (m + k) ≤ length ws) where
 pub nothing-asked : (order none : List ℕ) (rows : List Row) → none ≡ [] → Asked order [] [] rows → Asked order (numbersOf none) [] rows
 unfolding wordsOf
 nothing-asked order none rows e a = subst (λ (x : List ℕ). Asked order (numbersOf x) [] rows) (sym e) a
+
+-- The rows behind the first m, read from the words between.
+pub between-rows : (ws : List ℕ) (m k : ℕ) → 2 * (m + k) ≤ length ws → rowsOf (take (2 * (m + k) - 2 * m) (drop (2 * m) ws)) ≡ behind m k ws
+between-rows ws m k room =
+    let size : 2 * (m + k) - 2 * m ≡ 2 * k = omega arith in
+    ap (λ (n : ℕ). rowsOf (take n (drop (2 * m) ws))) size
+    ∙ ap (λ (x : List ℕ). rowsOf (take (2 * k) x)) (ap (drop (2 * m)) (words ws m k room) ∙ part-rows (firstRows m ws) (behind m k ws) (rest ws m k room) m (first-size ws m k room))
+    ∙ first-rows (behind m k ws) (rest ws m k room) k (behind-size ws m k room)

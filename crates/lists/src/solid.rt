@@ -1,11 +1,12 @@
 // The rows that are left are handed over: their care words in one run, their value words in another.
 ghost use mathlib.Core.Path.{_≡_};
-ghost use Prim.Native.Nat.{_≤_, _<_};
+ghost use Prim.Native.Nat.{_+_, _*_, _≤_, _<_};
 ghost use lib.ListN.{length, set};
 ghost use Rattle.rules.specs.Answers.{over};
 ghost use Rattle.rules.specs.Calls.{cares, values};
 ghost use Rattle.sheets.specs.Barred.{rowsOf};
 ghost use Rattle.lists.specs.Blank.{isBlank, solid};
+ghost use Rattle.lists.specs.Lent.{behind};
 use rules::Row;
 
 fn is_blank(row: Row) -> bool
@@ -48,4 +49,24 @@ pub fn copy_solid(rows: &[u32], care: &mut [u32], value: &mut [u32]) -> usize
         i += 1;
     }
     count
+}
+
+// The same, of the `count` rows behind the first `ons` rows of a run.
+pub fn copy_behind(
+    kept: &[u32],
+    ons: usize,
+    count: usize,
+    care: &mut [u32],
+    value: &mut [u32],
+) -> usize
+    requires { ⌜ 2 * (ons + count) ≤ length (now kept) ⌝ }
+    requires { ⌜ length (solid (behind ons count (now kept))) ≤ length (now care) ⌝ }
+    requires { ⌜ length (solid (behind ons count (now kept))) ≤ length (now value) ⌝ }
+    ensures { λ _. ⌜ now (care .exit) ≡ over (cares (solid (behind ons count (now (kept .entry))))) (now (care .entry)) ⌝ }
+    ensures { λ _. ⌜ now (value .exit) ≡ over (values (solid (behind ons count (now (kept .entry))))) (now (value .entry)) ⌝ }
+    ensures { λ r. ⌜ r ≡ length (solid (behind ons count (now (kept .entry)))) ⌝ }
+{
+    let from = 2 * ons;
+    let end = 2 * (ons + count);
+    copy_solid(&kept[from..end], care, value)
 }

@@ -1,12 +1,12 @@
 -- What an answer says of the verdict behind it.
 use mathlib.Core.Path.{_≡_, refl, sym, ap, subst, _∙_}
 use mathlib.Core.Bool.{true, false, _&&_}
-use mathlib.Core.List.{List, [], _∷_}
+use mathlib.Core.List.{List, [], _∷_, _++_}
 use Prim.Native.Nat.{ℕ, _≤_, _<_}
 use native.Mathlib.Omega.{arith}
 use lib.Dec.{eqb, leb, ltb}
 use lib.IntN.{ℤ}
-use lib.ListN.{length, take, drop}
+use lib.ListN.{length, take, drop, length-append}
 use lib.Seq.{take-at}
 use borrow.Author.Tests.{ltb-true, le-leb}
 use Rattle.rules.specs.declared.Refusal.{Refusal}
@@ -14,6 +14,7 @@ use Rattle.rules.specs.declared.Refusal.the-variants.{Inputs, Order, OnSheet, O
 use Rattle.rules.specs.declared.ReadAnswer.{ReadAnswer}
 use Rattle.rules.specs.declared.WriteAnswer.{WriteAnswer}
 use Rattle.rules.specs.Words.{maxInputs, isInputs}
+use Rattle.rules.specs.Sheets.{maxNumbers}
 use Rattle.rules.specs.Answers.{Reply, Check, Verdict, given, refused, judge, refusalReply, readReply, writeReply, replyOf, after}
 use Rattle.rules.specs.Calls.{Read, read, readValues, first}
 use Rattle.rules.proofs.Logic.{test, and-both, and-join}
@@ -71,29 +72,30 @@ abbrev second : List ℕ → ℕ
 second [] = 0
 second (v ∷ vs) = first vs
 
-module _ (answer : ReadAnswer) (text : List ℕ) (old numbers : List ℤ) (says : readReply answer ≡ replyOf readValues (read text (length old)))
-    (leaves : numbers ≡ after (λ (x : Read). x .numbers) (read text (length old)) old) where
+module _ (answer : ReadAnswer) (text : List ℕ) (old numbers : List ℤ) (says : readReply answer ≡ replyOf readValues (read text maxNumbers))
+    (leaves : numbers ≡ after (λ (x : Read). x .numbers) (read text maxNumbers) old) where
   pub record Sheet (inputs count : ℕ) : Type 0 where
     pub inputs-are : isInputs inputs ≡ true
-    pub within : count ≤ length old
-    pub sheet : read text (length old) ≡ given (record { inputs = inputs; numbers = take count numbers })
+    pub within : count ≤ length numbers
+    pub sheet : read text maxNumbers ≡ given (record { inputs = inputs; numbers = take count numbers })
 
   pub read-sheet : (inputs count : ℕ) → answer ≡ ReadAnswer.Sheet inputs count → Sheet inputs count
   read-sheet inputs count e =
       let x = readResult text in
       let reply = ap readReply (sym e) ∙ says in
-      let g = zero-given (read text (length old)) readValues (read-judges text (length old)) (ap (λ r. r .number) reply) in
+      let g = zero-given (read text maxNumbers) readValues (read-judges text maxNumbers) (ap (λ r. r .number) reply) in
       let whole = reply ∙ ap (replyOf readValues) g in
-      let form = read-form text (length old) g in
+      let form = read-form text maxNumbers g in
       let i : inputs ≡ x .inputs = ap (λ r. first (r .values)) whole in
       let k : count ≡ length (x .numbers) = ap (λ r. second (r .values)) whole in
-      let first-ones : take count numbers ≡ x .numbers =
-      ap (take count) (leaves ∙ ap (λ v. after (λ (x : Read). x .numbers) v old) g) ∙ take-at (x .numbers) (drop (length (x .numbers)) old) count (sym k) in
+      let rest = drop (length (x .numbers)) old in
+      let left : numbers ≡ x .numbers ++ rest = leaves ∙ ap (λ v. after (λ (x : Read). x .numbers) v old) g in
+      let first-ones : take count numbers ≡ x .numbers = ap (take count) left ∙ take-at (x .numbers) rest count (sym k) in
       record {
         inputs-are = rw i (and-join (le-leb 1 (x .inputs) (form .atLeast)) (le-leb (x .inputs) maxInputs (form .atMost)));
-        within = omega (arith, form .fits);
+        within = omega (arith, k, ap length left, length-append (x .numbers) rest);
         sheet = rw (i, first-ones) g;
       }
 
-  pub read-refused : (f : Refusal) → answer ≡ ReadAnswer.Refused f → read text (length old) ≡ refused (refusalReply f)
-  read-refused f e = refusal-refused (read text (length old)) readValues f (ap readReply (sym e) ∙ says)
+  pub read-refused : (f : Refusal) → answer ≡ ReadAnswer.Refused f → read text maxNumbers ≡ refused (refusalReply f)
+  read-refused f e = refusal-refused (read text maxNumbers) readValues f (ap readReply (sym e) ∙ says)

@@ -17,10 +17,10 @@ abbrev pub maxPrinted : ℕ
 maxPrinted = 6933
 
 -- The run afterwards, and the count of the bytes written: 0 says that there is no room, since every text has a byte.
-abbrev pub printed : List ℕ → List ℕ → List ℕ
+unfoldable pub printed : List ℕ → List ℕ → List ℕ
 printed text old = cond (ltb (length old) maxPrinted) old (over text old)
 
-abbrev pub printedSize : List ℕ → ℕ → ℕ
+unfoldable pub printedSize : List ℕ → ℕ → ℕ
 printedSize text room = cond (ltb room maxPrinted) 0 (length text)
 
 -- What is printed for an answer of the whole list's call, whose rows stand in two runs.

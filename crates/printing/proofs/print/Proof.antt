@@ -14,7 +14,7 @@ use Rattle.rules.specs.Sheets.{maxNumbers}
 use Rattle.rules.specs.Answers.{after, readReply, replyOf}
 use Rattle.rules.specs.Calls.{Read, read, readValues}
 use Rattle.pla.proofs.Positions.{puts-over}
-use Rattle.printing.specs.Printed.{maxPrinted}
+use Rattle.printing.specs.Printed.{maxPrinted, printed, printedSize}
 use Rattle.printing.proofs.Replies.{Sheet, read-sheet, read-refused}
 use Rattle.printing.proofs.Outputs.{on-read, on-refused}
 use borrow.Author.Needs.{needs}
@@ -49,6 +49,7 @@ roomy : (c : tie.After-read) → ltb (length (now (start c .args .out))) maxPrin
 roomy c = le-ltb _ maxPrinted (c .before .before .if1 .left)
 
 returns : tie.Need-returns
+unfolding printed printedSize
 returns c = rw (lt-ltb (length (now (c .before .before .before .before .args .out))) maxPrinted (c .if1 .taken)) (refl, refl)
 
 slice-aggregate-read : tie.Need-slice-aggregate-read
@@ -83,6 +84,7 @@ same-length : tie.Need-same-length
 same-length c = search needs
 
 returns-2 : tie.Need-returns-2
+unfolding printed printedSize
 returns-2 c =
     let p = c .before .before in
     let told = p .before .before .before in
@@ -92,6 +94,7 @@ same-length-2 : tie.Need-same-length-2
 same-length-2 c = search needs
 
 returns-3 : tie.Need-returns-3
+unfolding printed printedSize
 returns-3 c =
     let p = c .before .before in
     let told = p .before .before in

@@ -3,10 +3,12 @@
 mod put;
 mod rows;
 
+// For callers that put other texts together.
+pub use put::put_bytes;
+pub use put::put_digits;
+
 use given::given_list;
 use put::digit_count;
-use put::put_bytes;
-use put::put_digits;
 use rows::put_rows;
 use rules::Refusal;
 use rules::Row;

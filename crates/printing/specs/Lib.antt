@@ -1,0 +1,2 @@
+-- What the printing of an answer leaves.
+pub mod Printed

@@ -4,11 +4,10 @@ mod put;
 mod rows;
 
 // For callers that put other texts together.
-pub use put::put_bytes;
-pub use put::put_digits;
-
 use given::given_list;
 use put::digit_count;
+pub use put::put_bytes;
+pub use put::put_digits;
 use rows::put_rows;
 use rules::Refusal;
 use rules::Row;

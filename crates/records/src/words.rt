@@ -103,7 +103,13 @@ fn prune_given(n: u32, count: usize, care: &[u32], value: &[u32], dropped: &mut 
 }
 
 // The number of rows kept, or the refusal.
-pub fn prune_words(n: u32, count: usize, care: &[u32], value: &[u32], dropped: &mut [u32]) -> PruneAnswer
+pub fn prune_words(
+    n: u32,
+    count: usize,
+    care: &[u32],
+    value: &[u32],
+    dropped: &mut [u32],
+) -> PruneAnswer
     requires { ⌜ length (now care) ≤ length (now dropped) ⌝ }
     ensures { λ r. ⌜ pruneReply r ≡ replyOf (λ m. kept m ∷ []) (prune n count (rowsIn (now (care .entry)) (now (value .entry)))) ⌝ }
     ensures { λ _. ⌜ now (dropped .exit) ≡ after goneMarks (prune n count (rowsIn (now (care .entry)) (now (value .entry)))) (now (dropped .entry)) ⌝ }

@@ -192,14 +192,14 @@ module _ {M : Type 1} (𝓤 : URA M) (H : Heap 𝓤) (A : Atoms 𝓤) (W : Given
       nothing ! $ move ! (3 ∷ 0 ∷ []) $ join ! $ frame ! $ move ! (2 ∷ []) $ fsplit ! $ move ! (3 ∷ 1 ∷ []) $ fjoin ! $ move ! (1 ∷ 0 ∷ []) $ fjoin ! $ frame ! $ done !
 
   module _ (𝓣 : Tables 𝓤 H)
-    (kso : Triple 𝓤 (𝓣 .C #stop-of) (StopOf 𝓤 H A at-mem run))
-    (kbw : Triple 𝓤 (𝓣 .C #blank-words) (BlankWords 𝓤 H A at-mem run))
-    (kwo : Triple 𝓤 (𝓣 .C #words-of) (WordsOf 𝓤 H A at-mem run))
-    (kpo : Triple 𝓤 (𝓣 .C #plan-of) (PlanOf 𝓤 H A at-mem run))
-    (kmo : Triple 𝓤 (𝓣 .C #marks-of) (MarksOf 𝓤 H A at-mem run))
-    (kwm : Triple 𝓤 (𝓣 .C #write-marks) (WriteMarks 𝓤 H A at-mem run))
-    (kao : Triple 𝓤 (𝓣 .C #answer-of) (AnswerOf 𝓤 H A at-mem run))
-    (l₀ l₁ l₂ l₃ l₄ l₅ l₆ l₇ l₈ l₉ l₁₀ l₁₁ l₁₂ l₁₃ l₁₄ : ℕ) where
+      (kso : Triple 𝓤 (𝓣 .C #stop-of) (StopOf 𝓤 H A at-mem run))
+      (kbw : Triple 𝓤 (𝓣 .C #blank-words) (BlankWords 𝓤 H A at-mem run))
+      (kwo : Triple 𝓤 (𝓣 .C #words-of) (WordsOf 𝓤 H A at-mem run))
+      (kpo : Triple 𝓤 (𝓣 .C #plan-of) (PlanOf 𝓤 H A at-mem run))
+      (kmo : Triple 𝓤 (𝓣 .C #marks-of) (MarksOf 𝓤 H A at-mem run))
+      (kwm : Triple 𝓤 (𝓣 .C #write-marks) (WriteMarks 𝓤 H A at-mem run))
+      (kao : Triple 𝓤 (𝓣 .C #answer-of) (AnswerOf 𝓤 H A at-mem run))
+      (l₀ l₁ l₂ l₃ l₄ l₅ l₆ l₇ l₈ l₉ l₁₀ l₁₁ l₁₂ l₁₃ l₁₄ : ℕ) where
     abbrev C : Calls 𝓤 H
     C = 𝓣 .C
 
@@ -278,7 +278,7 @@ module _ {M : Type 1} (𝓤 : URA M) (H : Heap 𝓤) (A : Atoms 𝓤) (W : Given
                 land ! (from ! (stop !)) (init ! 10 refl (nothing-lawful 𝓤 H A W .typed un _ ir .0)) $ rewrite ! 10 (λ (v : Val). ‵ (fat fullShare tyUnit l₁₂ 0 v)) (ap only ir) refl $
                 drop ! $ split ! $ lft-end ! tt $ move ! (0 ∷ 4 ∷ 2 ∷ []) $
                 use3 W (later (‵ (Mine (zs .0)) ⊛ ‵ (flft κ q))) (comes-back T.the-row κ (ν ∷ []) q γ b o 𝓤 H A W (named 0) (named 0) ys δ (zs .0) room l) $ await ! tt $ split ! $
-                keep ! (0 ∷ 1 ∷ 4 ∷ 5 ∷ 6 ∷ 7 ∷ 8 ∷ 9 ∷ 10 ∷ 11 ∷ 12 ∷ 13 ∷ 14 ∷ 15 ∷ 16 ∷ 17 ∷ 18 ∷ 19 ∷ 20 ∷ 21 ∷ 22 ∷ 23 ∷ 24 ∷ 25 ∷ 26 ∷ 27 ∷ 28 ∷ 29 ∷ 30 ∷ 31 ∷ 32 ∷ 33 ∷ 34 ∷ []) $ 
+                keep ! (0 ∷ 1 ∷ 4 ∷ 5 ∷ 6 ∷ 7 ∷ 8 ∷ 9 ∷ 10 ∷ 11 ∷ 12 ∷ 13 ∷ 14 ∷ 15 ∷ 16 ∷ 17 ∷ 18 ∷ 19 ∷ 20 ∷ 21 ∷ 22 ∷ 23 ∷ 24 ∷ 25 ∷ 26 ∷ 27 ∷ 28 ∷ 29 ∷ 30 ∷ 31 ∷ 32 ∷ 33 ∷ 34 ∷ []) $
                 at-answer-of k (zs .0) l (same-marks (prune nn cnt (map rowOf ys)) ys (zs .0) st pl (est .0) planned (e ∙ ap (markedTo ys (pl .dropped)) ek))))))))))
 
             at-marks-of : Sq W (Ctx ys (num l₄ (length ys)) (num l₅ st) (words-in l₆ bl) (words-in l₇ w) (plan-in l₈ pl) (froom word l₉ 0) (fat fullShare rfe l₁₀ 0 (vptr b o)) (fat fullShare sle l₁₁ 0 s) (froom tyUnit l₁₂ 0) (froom rfe l₁₃ 0) (froom sle l₁₄ 0)) (runs C Λ En m.t-8 (atRet En Post))
@@ -330,7 +330,7 @@ module _ {M : Type 1} (𝓤 : URA M) (H : Heap 𝓤) (A : Atoms 𝓤) (W : Given
             land ! (from ! (stop !)) (init ! 20 refl (LL.lawful Wd.the-type Wd′.the-laws 𝓤 H A W .typed w _ ir .0)) $ rewrite ! 20 (λ (v : Val). ‵ (fat fullShare Wd′.mir l₇ 0 v)) (ap only told) refl $
             drop ! $ split ! $ lft-end ! tt $ move ! (0 ∷ 4 ∷ 2 ∷ []) $
             use3 W (later (‵ (Mine (zs .0)) ⊛ ‵ (flft κ q))) (comes-back T.the-row κ (ν ∷ []) q γ b o 𝓤 H A W (named 0) (named 0) ys δ (zs .0) room l) $ await ! tt $ split ! $
-            rewrite ! 0 (λ (j : List Cube). ‵ (Mine j)) (e .1) refl $ keep ! (0 ∷ 1 ∷ 4 ∷ 5 ∷ 6 ∷ 7 ∷ 8 ∷ 9 ∷ 10 ∷ 11 ∷ 12 ∷ 13 ∷ 14 ∷ 15 ∷ 16 ∷ 17 ∷ 18 ∷ 19 ∷ 20 ∷ 21 ∷ 22 ∷ 23 ∷ 24 ∷ 25 ∷ 26 ∷ 27 ∷ 28 ∷ 29 ∷ 30 ∷ 31 ∷ 32 ∷ 33 ∷ 34 ∷ []) $ 
+            rewrite ! 0 (λ (j : List Cube). ‵ (Mine j)) (e .1) refl $ keep ! (0 ∷ 1 ∷ 4 ∷ 5 ∷ 6 ∷ 7 ∷ 8 ∷ 9 ∷ 10 ∷ 11 ∷ 12 ∷ 13 ∷ 14 ∷ 15 ∷ 16 ∷ 17 ∷ 18 ∷ 19 ∷ 20 ∷ 21 ∷ 22 ∷ 23 ∷ 24 ∷ 25 ∷ 26 ∷ 27 ∷ 28 ∷ 29 ∷ 30 ∷ 31 ∷ 32 ∷ 33 ∷ 34 ∷ []) $
             at-plan-of w (subst (Is Wd.the-row w) told ir) (e .0)))))))))
 
       at-blank-words : Sq W (Ctx ys (num l₄ (length ys)) (num l₅ st) (froom Wd′.mir l₆ 0) (froom Wd′.mir l₇ 0) (froom P′.mir l₈ 0) (froom word l₉ 0) (froom rfe l₁₀ 0) (froom sle l₁₁ 0) (froom tyUnit l₁₂ 0) (froom rfe l₁₃ 0) (froom sle l₁₄ 0)) (runs C Λ En m.t-3 (atRet En Post))

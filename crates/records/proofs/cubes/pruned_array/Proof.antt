@@ -131,7 +131,7 @@ module _ {M : Type 1} (𝓤 : URA M) (H : Heap 𝓤) (A : Atoms 𝓤) (W : Given
       nothing ! $ move ! (0 ∷ 2 ∷ []) $ done !
 
   module _ (𝓣 : Tables 𝓤 H) (kpr : Triple 𝓤 (𝓣 .C #prune-records) (PruneRecords 𝓤 H A at-mem run)) (kpo : Triple 𝓤 (𝓣 .C #pruned-of) (PrunedOf 𝓤 H A at-mem run))
-    (l₀ l₁ l₂ l₃ l₄ l₅ l₆ l₇ l₈ : ℕ) where
+      (l₀ l₁ l₂ l₃ l₄ l₅ l₆ l₇ l₈ : ℕ) where
     abbrev C : Calls 𝓤 H
     C = 𝓣 .C
 

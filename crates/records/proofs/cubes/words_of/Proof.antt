@@ -65,7 +65,6 @@ use Rattle.records.proofs.cubes.words_of.Key.{name as #words-of}
 use Rattle.records.proofs.cubes.words_of as f
 use Rattle.records.proofs.cubes.words_of.Statement as stated
 use Rattle.records.proofs.cubes.words_of.Code as code
-
 use Rattle.records.proofs.cubes.words_of.Code.Mir as m
 
 abbrev Arg : Type 0

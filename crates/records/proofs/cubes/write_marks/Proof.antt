@@ -67,7 +67,6 @@ use Rattle.records.proofs.cubes.write_marks.Key.{name as #write-marks}
 use Rattle.records.proofs.cubes.write_marks as f
 use Rattle.records.proofs.cubes.write_marks.Statement as stated
 use Rattle.records.proofs.cubes.write_marks.Code as code
-
 use Rattle.records.proofs.cubes.write_marks.Code.Mir as m
 
 abbrev Arg : Type 0

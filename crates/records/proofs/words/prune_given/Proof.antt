@@ -55,9 +55,10 @@ prune-all-requires : tie.Need-prune-all-requires
 prune-all-requires c κs =
     let s = c .before .before .before .before .before .before .before .before .before .before .before in
     let w = counts s in
-    let order = ap (take (s .args .n)) (c .before .before .before .natural-order .ensures) ∙ order-first _ (s .args .n) in
-    (laid-asked (s .args .n) (s .args .count) (rows s) (s .pre .1 .0) _ _ _ order (c .before .before .before .before .before .before .lay .ensures) (s .pre .0),
-    omega (arith, c .before .before .before .before .before .before .lay .kept .1 .1 .0))
+    let order = ap (take (s .args .n)) (c .before .before .before .natural-order .ensures) ∙ order-first _ (s .args .n) in (
+      laid-asked (s .args .n) (s .args .count) (rows s) (s .pre .1 .0) _ _ _ order (c .before .before .before .before .before .before .lay .ensures) (s .pre .0),
+      omega (arith, c .before .before .before .before .before .before .lay .kept .1 .1 .0),
+    )
 
 slice-aggregate-mark : tie.Need-slice-aggregate-mark
 slice-aggregate-mark c = search needs

@@ -1,4 +1,5 @@
--- Of a given list only its first rows count; words in bytes, one after another; orders in bytes.
+-- Of a given list only its first rows count; words in bytes, one after another; orders in bytes; rows copied into bytes;
+-- list building on sheets in place.
 pub mod FirstRows
 pub mod Bytes
 pub mod Orders

@@ -25,20 +25,30 @@ use Rattle.host.proofs.whole.list.Tie as tie
 abbrev verdict : tie.Start → Verdict (List Row)
 verdict s = hostWhole (s .args .n) (now (s .args .order)) (now (s .args .on)) (now (s .args .off)) (now (s .args .care)) (now (s .args .value))
 
--- what the tests that were passed say
-abbrev at2 : tie.Else2 → tie.Start
-at2 c = c .before .before .before .before .before .before .before
+-- the tests passed before, and the function's entry
+abbrev start : tie.Else2 → tie.Start
+start c = c .before .before .before .before .before .before .before
+
+abbrev passed2 : tie.Else3 → tie.Else2
+passed2 c = c .before .before .before .before
+
+abbrev passed3 : tie.Else4 → tie.Else3
+passed3 c = c .before .before
+
+abbrev passed4 : tie.Else5 → tie.Else4
+passed4 c = c .before .before
 
 abbrev at3 : tie.Else3 → tie.Start
-at3 c = c .before .before .before .before .before .before .before .before .before .before .before
+at3 c = start (passed2 c)
 
 abbrev at4 : tie.Else4 → tie.Start
-at4 c = c .before .before .before .before .before .before .before .before .before .before .before .before .before
+at4 c = at3 (passed3 c)
 
 abbrev at5 : tie.Else5 → tie.Start
-at5 c = c .before .before .before .before .before .before .before .before .before .before .before .before .before .before .before
+at5 c = at4 (passed4 c)
 
-inputs : (c : tie.Else2) → isInputs (at2 c .args .n) ≡ true
+-- what they say
+inputs : (c : tie.Else2) → isInputs (start c .args .n) ≡ true
 inputs c = inputs-between _ (c .before .if1 .left) (c .if2 .left)
 
 ordered : (c : tie.Else3) → (noneLeftOver (now (at3 c .args .order)) && isOrder (at3 c .args .n) (wordsOf (now (at3 c .args .order)))) ≡ true
@@ -52,17 +62,21 @@ off-formed c = sym (c .before .well-formed-bytes2 .ensures) ∙ not-false _ (c .
 
 -- the copied words are the order's
 abbrev words : tie.Else5 → List ℕ
-words c = c .before .before .before .before .before .before .order-words .last .1 .1 .0
+words c = passed3 (passed4 c) .before .before .order-words .last .1 .1 .0
 
 copied : (c : tie.Else5) → take (at5 c .args .n) (words c) ≡ wordsOf (now (at5 c .args .order))
-copied c = c .before .before .before .before .before .before .order-words .ensures .1 (not-false _ (c .before .before .before .before .if3 .left))
+copied c = let o = passed3 (passed4 c) in o .before .before .order-words .ensures .1 (not-false _ (o .if3 .left))
 
 -- so the search may be asked, and the verdict is that of an input in form
 asks : (c : tie.Else5) → Asked (take (at5 c .args .n) (words c)) (numbersOf (now (at5 c .args .on))) (numbersOf (now (at5 c .args .off))) []
-asks c = asked _ _ _ _ _ (copied c) (ordered (c .before .before .before .before)) (on-formed (c .before .before)) (off-formed c) (c .before .before .before .before .before .before .before .before .if2 .left)
+asks c =
+    let o = passed3 (passed4 c) in
+    asked _ _ _ _ _ (copied c) (ordered o) (on-formed (passed4 c)) (off-formed c) (passed2 o .if2 .left)
 
 same-verdict : (c : tie.Else5) → formedWhole (take (at5 c .args .n) (words c)) (now (at5 c .args .on)) (now (at5 c .args .off)) (now (at5 c .args .care)) (now (at5 c .args .value)) ≡ verdict (at5 c)
-same-verdict c = formed-is _ _ _ _ _ (copied c) (ordered (c .before .before .before .before)) (on-formed (c .before .before)) (off-formed c) (inputs (c .before .before .before .before .before .before .before .before)) _ _
+same-verdict c =
+    let o = passed3 (passed4 c) in
+    formed-is _ _ _ _ _ (copied c) (ordered o) (on-formed (passed4 c)) (off-formed c) (inputs (passed2 o)) _ _
 
 returns : tie.Need-returns
 returns c =
@@ -82,8 +96,9 @@ order-words-requires c κs = search needs
 
 returns-3 : tie.Need-returns-3
 returns-3 c =
-    let ordered = c .before .before .order-words .ensures .0 in
-    let v : verdict (c .before .before .before .before .before .before .before .before .before .before .before) ≡ refused (refusal 2) = refused-order _ _ _ _ _ (inputs (c .before .before .before .before)) (sym ordered ∙ not-true _ (c .if3 .taken)) in
+    let passed : tie.Else2 = c .before .before .before .before in
+    let none = sym (c .before .before .order-words .ensures .0) ∙ not-true _ (c .if3 .taken) in
+    let v : verdict (start passed) ≡ refused (refusal 2) = refused-order _ _ _ _ _ (inputs passed) none in
     (rw v, (rw v, rw v))
 
 well-formed-bytes-requires : tie.Need-well-formed-bytes-requires
@@ -91,9 +106,9 @@ well-formed-bytes-requires c κs = search needs
 
 returns-4 : tie.Need-returns-4
 returns-4 c =
-    let formed = c .before .well-formed-bytes .ensures in
-    let passed = c .before .before in
-    let v : verdict (at3 passed) ≡ refused (refusal 3) = refused-on _ _ _ _ _ (inputs (passed .before .before .before .before)) (ordered passed) (sym formed ∙ not-true _ (c .if4 .taken)) in
+    let passed : tie.Else3 = c .before .before in
+    let none = sym (c .before .well-formed-bytes .ensures) ∙ not-true _ (c .if4 .taken) in
+    let v : verdict (at3 passed) ≡ refused (refusal 3) = refused-on _ _ _ _ _ (inputs (passed2 passed)) (ordered passed) none in
     (rw v, (rw v, rw v))
 
 well-formed-bytes-requires-2 : tie.Need-well-formed-bytes-requires-2
@@ -101,10 +116,10 @@ well-formed-bytes-requires-2 c κs = search needs
 
 returns-5 : tie.Need-returns-5
 returns-5 c =
-    let formed = c .before .well-formed-bytes2 .ensures in
-    let passed = c .before .before in
-    let v : verdict (at4 passed) ≡ refused (refusal 4) =
-    refused-off _ _ _ _ _ (inputs (passed .before .before .before .before .before .before)) (ordered (passed .before .before)) (on-formed passed) (sym formed ∙ not-true _ (c .if5 .taken)) in
+    let passed : tie.Else4 = c .before .before in
+    let o = passed3 passed in
+    let none = sym (c .before .well-formed-bytes2 .ensures) ∙ not-true _ (c .if5 .taken) in
+    let v : verdict (at4 passed) ≡ refused (refusal 4) = refused-off _ _ _ _ _ (inputs (passed2 o)) (ordered o) (on-formed passed) none in
     (rw v, (rw v, rw v))
 
 array-share-prefix-words : tie.Need-array-share-prefix-words

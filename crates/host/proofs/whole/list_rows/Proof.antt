@@ -1,3 +1,4 @@
+-- Building is asked with no rows kept, and its rows are copied out.
 use mathlib.Core.Path.{sym}
 use mathlib.Core.List.{List}
 use Prim.Native.Nat.{ℕ}
@@ -17,6 +18,13 @@ start c = c .before .before .before .before .before .before .before .before .bef
 abbrev keptBy : tie.After-build → List ℕ
 keptBy c = c .build .last .1 .1 .1 .1 .1 .0
 
+-- what it was asked and what it answers
+here : (c : tie.After-build)
+    → Built-from (now (start c .args .order)) (now (start c .args .on)) (now (start c .args .off)) (now (start c .args .care)) (now (start c .args .value))
+    (now (start c .args .kept)) (keptBy c) (c .build .result)
+here c =
+    record { asked = start c .pre .0; room = _; short = c .before .before .before .shorter .ensures; reply = c .build .ensures .0; stands = c .build .ensures .1 }
+
 shorter-requires : tie.Need-shorter-requires
 shorter-requires c κs = search needs
 
@@ -28,12 +36,6 @@ build-requires c κs = let s = c .before .before .before .before .before .before
 
 enum-known-built : tie.Need-enum-known-built
 enum-known-built c = search needs
-
-here : (c : tie.After-build)
-    → Built-from (now (start c .args .order)) (now (start c .args .on)) (now (start c .args .off)) (now (start c .args .care)) (now (start c .args .value))
-    (now (start c .args .kept)) (keptBy c) (c .build .result)
-here c =
-    record { asked = start c .pre .0; room = _; short = c .before .before .before .shorter .ensures; reply = c .build .ensures .0; stands = c .build .ensures .1 }
 
 mul-copy-bytes : tie.Need-mul-copy-bytes
 mul-copy-bytes c = let h = within (here (c .before .before .before .before .before)) (c .before .built .given .1) in omega (arith, h)

@@ -4,17 +4,16 @@
 pub use partial::partial_list;
 pub use whole::whole_list;
 
-// The method on what is lent, for callers that lend a sheet in place: rows in a run of words, blanks where they went.
-pub mod build;
-pub mod solid;
-
-// Pruning on a run of words.
+// The method on what is lent, for callers that lend a sheet in place: rows in a run of words, blanks where they went; and
+// pruning by itself.
 mod barring;
+pub mod build;
 mod build_part;
 mod formed;
 mod generate;
 mod partial;
 pub mod prune;
 mod put;
+pub mod solid;
 mod whole;
 mod widen;

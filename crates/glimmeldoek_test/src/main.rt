@@ -4,29 +4,41 @@ fn case(name: &[u8], on: &[u8], off: &[u8]) {
     running::run(on, off);
 }
 
-fn worked() {
+fn worked_1() {
     case(b"p1\n", b"p1/on.cnf", b"p1/off.cnf");
     case(b"p2\n", b"p2/on.cnf", b"p2/off.cnf");
     case(b"p3\n", b"p3/on.cnf", b"p3/off.cnf");
     case(b"p5\n", b"p5/on.cnf", b"p5/off.cnf");
+}
+
+fn worked_2() {
     case(b"p6\n", b"p6/on.cnf", b"p6/off.cnf");
     case(b"p7\n", b"p7/on.cnf", b"p7/off.cnf");
     case(b"p8\n", b"p8/on.cnf", b"p8/off.cnf");
     case(b"p9\n", b"p9/on.cnf", b"p9/off.cnf");
+}
+
+fn worked_3() {
     case(b"p10\n", b"p10/on.cnf", b"p10/off.cnf");
     case(b"p11\n", b"p11/on.cnf", b"p11/off.cnf");
     case(b"parity_9\n", b"parity_9/on.cnf", b"parity_9/off.cnf");
 }
 
-fn refusals() {
+fn refusals_1() {
     case(b"on_10\n", b"on_10/on.cnf", b"on_10/off.cnf");
     case(b"on_11\n", b"on_11/on.cnf", b"on_11/off.cnf");
     case(b"on_12\n", b"on_12/on.cnf", b"on_12/off.cnf");
     case(b"on_13\n", b"on_13/on.cnf", b"on_13/off.cnf");
+}
+
+fn refusals_2() {
     case(b"on_15\n", b"on_15/on.cnf", b"on_15/off.cnf");
     case(b"off_10\n", b"off_10/on.cnf", b"off_10/off.cnf");
     case(b"off_11\n", b"off_11/on.cnf", b"off_11/off.cnf");
     case(b"off_12\n", b"off_12/on.cnf", b"off_12/off.cnf");
+}
+
+fn refusals_3() {
     case(b"off_13\n", b"off_13/on.cnf", b"off_13/off.cnf");
     case(b"off_15\n", b"off_15/on.cnf", b"off_15/off.cnf");
     case(
@@ -39,6 +51,9 @@ fn refusals() {
         b"off_before_14/on.cnf",
         b"off_before_14/off.cnf",
     );
+}
+
+fn refusals_4() {
     case(
         b"other_inputs\n",
         b"other_inputs/on.cnf",
@@ -57,7 +72,7 @@ fn refusals() {
     case(b"parity_10\n", b"parity_10/on.cnf", b"parity_10/off.cnf");
 }
 
-fn headers() {
+fn headers_1() {
     case(b"comments\n", b"comments/on.cnf", b"comments/off.cnf");
     case(
         b"comment_not_closed\n",
@@ -70,6 +85,9 @@ fn headers() {
         b"header_spaces/off.cnf",
     );
     case(b"header_tab\n", b"header_tab/on.cnf", b"header_tab/off.cnf");
+}
+
+fn headers_2() {
     case(
         b"header_indented\n",
         b"header_indented/on.cnf",
@@ -90,6 +108,9 @@ fn headers() {
         b"header_and_more/on.cnf",
         b"header_and_more/off.cnf",
     );
+}
+
+fn headers_3() {
     case(
         b"header_inputs_zero_first\n",
         b"header_inputs_zero_first/on.cnf",
@@ -110,6 +131,9 @@ fn headers() {
         b"header_inputs_25/on.cnf",
         b"header_inputs_25/off.cnf",
     );
+}
+
+fn headers_4() {
     case(
         b"header_clauses_1025\n",
         b"header_clauses_1025/on.cnf",
@@ -122,7 +146,7 @@ fn headers() {
     );
 }
 
-fn bodies() {
+fn bodies_1() {
     case(
         b"line_feeds_after_returns\n",
         b"line_feeds_after_returns/on.cnf",
@@ -135,6 +159,9 @@ fn bodies() {
         b"no_final_line_feed/off.cnf",
     );
     case(b"one_line\n", b"one_line/on.cnf", b"one_line/off.cnf");
+}
+
+fn bodies_2() {
     case(
         b"clause_over_lines\n",
         b"clause_over_lines/on.cnf",
@@ -151,6 +178,9 @@ fn bodies() {
         b"percent_joined/on.cnf",
         b"percent_joined/off.cnf",
     );
+}
+
+fn bodies_3() {
     case(
         b"percent_in_clause\n",
         b"percent_in_clause/on.cnf",
@@ -163,6 +193,9 @@ fn bodies() {
     );
     case(b"minus_zero\n", b"minus_zero/on.cnf", b"minus_zero/off.cnf");
     case(b"plus_one\n", b"plus_one/on.cnf", b"plus_one/off.cnf");
+}
+
+fn bodies_4() {
     case(b"zero_first\n", b"zero_first/on.cnf", b"zero_first/off.cnf");
     case(b"two_zeros\n", b"two_zeros/on.cnf", b"two_zeros/off.cnf");
     case(
@@ -173,7 +206,7 @@ fn bodies() {
     case(b"letters\n", b"letters/on.cnf", b"letters/off.cnf");
 }
 
-fn limits() {
+fn limits_1() {
     case(b"not_closed\n", b"not_closed/on.cnf", b"not_closed/off.cnf");
     case(
         b"count_below\n",
@@ -190,6 +223,9 @@ fn limits() {
         b"token_before_count/on.cnf",
         b"token_before_count/off.cnf",
     );
+}
+
+fn limits_2() {
     case(
         b"bytes_32768\n",
         b"bytes_32768/on.cnf",
@@ -210,6 +246,9 @@ fn limits() {
         b"numbers_8193/on.cnf",
         b"numbers_8193/off.cnf",
     );
+}
+
+fn limits_3() {
     case(b"on_missing\n", b"on_missing/on.cnf", b"on_missing/off.cnf");
     case(
         b"off_missing\n",
@@ -226,14 +265,31 @@ fn limits() {
         b"on_a_folder/on.cnf",
         b"on_a_folder/off.cnf",
     );
+}
+
+fn limits_4() {
     case(b"on_empty\n", b"on_empty/on.cnf", b"on_empty/off.cnf");
     case(b"off_empty\n", b"off_empty/on.cnf", b"off_empty/off.cnf");
 }
 
 fn main() {
-    worked();
-    refusals();
-    headers();
-    bodies();
-    limits();
+    worked_1();
+    worked_2();
+    worked_3();
+    refusals_1();
+    refusals_2();
+    refusals_3();
+    refusals_4();
+    headers_1();
+    headers_2();
+    headers_3();
+    headers_4();
+    bodies_1();
+    bodies_2();
+    bodies_3();
+    bodies_4();
+    limits_1();
+    limits_2();
+    limits_3();
+    limits_4();
 }

@@ -4,4 +4,3 @@ pub mod Counted
 pub mod Replies
 pub mod Listing
 pub mod Outputs
-pub mod Printed

@@ -35,7 +35,7 @@ fn print_after_on(n: u32, on: &[i32], text: &[u8], out: &mut [u8]) -> usize
             }
             print_list(n, on, &off[..offs], out)
         }
-        ReadAnswer::Refused(refusal) => put_refusal(out, 0, refusal),
+        ReadAnswer::Refused(why) => put_refusal(out, 0, why),
     }
 }
 

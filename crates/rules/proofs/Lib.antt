@@ -25,4 +25,5 @@ pub mod GivenRows
 pub mod ReadForm
 pub mod Listed
 pub mod Demands
+pub mod Printed
 pub mod Table

@@ -26,21 +26,25 @@ fn write(path: &Path, file: &File) -> Vec<u8> {
     }
 }
 
-/// The test program: a function for each group.
+/// The test program: functions of few cases each, which are quick to prove.
 fn program(groups: &[Group]) -> String {
     let mut text = String::from(
         "// Every case folder: its name, and what is printed for its two sheets. Written by tests/cases.\n\
          fn case(name: &[u8], on: &[u8], off: &[u8]) {\n    io::write_all(1, name);\n    running::run(on, off);\n}\n\n",
     );
+    let mut calls = String::new();
     for group in groups {
-        text += &format!("fn {}() {{\n", group.name);
-        for case in &group.cases {
-            let name = case.name;
-            text += &format!("    case(b\"{name}\\n\", b\"{name}/on.cnf\", b\"{name}/off.cnf\");\n");
+        for (k, cases) in group.cases.chunks(4).enumerate() {
+            let function = format!("{}_{}", group.name, k + 1);
+            calls += &format!("    {function}();\n");
+            text += &format!("fn {function}() {{\n");
+            for case in cases {
+                let name = case.name;
+                text += &format!("    case(b\"{name}\\n\", b\"{name}/on.cnf\", b\"{name}/off.cnf\");\n");
+            }
+            text += "}\n\n";
         }
-        text += "}\n\n";
     }
-    let calls: String = groups.iter().map(|group| format!("    {}();\n", group.name)).collect();
     text + &format!("fn main() {{\n{calls}}}\n")
 }
 

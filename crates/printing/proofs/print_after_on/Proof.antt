@@ -80,8 +80,8 @@ slice-aggregate-print-list c = let told = c .before .before in sym (length-take-
 print-list-requires : tie.Need-print-list-requires
 print-list-requires c κs = search needs
 
-enum-known-refusal : tie.Need-enum-known-refusal
-enum-known-refusal c = search needs
+enum-known-why : tie.Need-enum-known-why
+enum-known-why c = search needs
 
 put-refusal-requires-2 : tie.Need-put-refusal-requires-2
 put-refusal-requires-2 c κs = search needs
@@ -105,7 +105,7 @@ returns-3 c =
     let p = c .before .before in
     let told = p .before .before in
     let r = told .before .before .before .before in
-    let text = off-refused (onSheet r) (onSheet r) _ _ (read-refused _ _ fresh _ (says r) (leaves r) _ (told .before .refusal .given .1)) in
+    let text = off-refused (onSheet r) (onSheet r) _ _ (read-refused _ _ fresh _ (says r) (leaves r) _ (told .before .why .given .1)) in
     rw text (puts-over (p .put-refusal2 .ensures))
 
 pub print-after-on-spec : {M : Type 1} → statement M
@@ -121,7 +121,7 @@ print-after-on-spec =
     array-share-prefix-off
     slice-aggregate-print-list
     print-list-requires
-    enum-known-refusal
+    enum-known-why
     put-refusal-requires-2
     same-length-2
     returns-2

@@ -6,4 +6,4 @@ pub mod Copied
 pub mod Written
 pub mod Planned
 pub mod Pruned
-mod Again
+mod Lending

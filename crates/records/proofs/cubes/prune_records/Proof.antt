@@ -53,7 +53,7 @@ use Rattle.records.specs.declared.plan.Words.{Words}
 use Rattle.records.specs.declared.plan.Plan.{Plan}
 use Rattle.records.specs.Marks.{marked, rowOf}
 use Rattle.records.specs.Steps.{Planned, markedTo, stopOf, wordsTo}
-use Rattle.records.proofs.Again.{LentAgain, lends-again, comes-back}
+use Rattle.records.proofs.Lending.{Out, goes-out, comes-home}
 use Rattle.records.proofs.Copied.{words-size}
 use Rattle.records.proofs.Pruned.{same-marks, same-verdict}
 use Rattle.records.proofs.cubes.Cube as T
@@ -264,8 +264,8 @@ module _ {M : Type 1} (𝓤 : URA M) (H : Heap 𝓤) (A : Atoms 𝓤) (W : Given
                 assigns ! (agg ! (and-then ! (load ! (from ! (stop !)) (look ! 5 refl)) (and-then ! (load ! (from ! (fld ! refl (stop !))) (look-in ! 27 (sub ! 1 refl (whole !)))) (no-more !))))
                 (from ! (stop !)) (init ! 3 refl (tt, (tt, (record { fits = room .0 }, tt)))) $
                 lft-new ! tt (λ ν. move ! (1 ∷ 2 ∷ []) $
-                use2 W (later (some (λ (δ : GName). ‵ (MutSlice (named 0) (ν ∷ []) T.the-row .own (x δ ys) (s ∷ [])) ⊛ ‵ (LentAgain T.the-row κ (ν ∷ []) q γ b o δ ys))))
-                (lends-again T.the-row κ (ν ∷ []) q γ b o 𝓤 H A W (named 0) (named 0) ys) $ await ! tt $ pick ! (λ δ. split ! $ move ! (2 ∷ 0 ∷ []) $
+                use2 W (later (some (λ (δ : GName). ‵ (MutSlice (named 0) (ν ∷ []) T.the-row .own (x δ ys) (s ∷ [])) ⊛ ‵ (Out T.the-row b o κ q γ (ν ∷ []) δ ys))))
+                (goes-out T.the-row b o 𝓤 H A W (named 0) κ q γ ys room (named 0) (ν ∷ [])) $ await ! tt $ pick ! (λ δ. split ! $ move ! (2 ∷ 0 ∷ []) $
                 use2 W (raw (WriteMarks 𝓤 H A at-mem run .pre (((ν ∷ [], tt), (fullShare, tt), tt, (x δ ys, (pl, (k, tt))), (s ∷ [], (pv pl ∷ [], (vint w64 k ∷ [], tt)))), tt)))
                 (qed W (‵ (flft (ν ∷ []) fullShare) ∷ ‵ (MutSlice (named 0) (ν ∷ []) T.the-row .own (x δ ys) (s ∷ [])) ∷ []) ∵ says ! lim $ nothing ! $ move ! (1 ∷ 0 ∷ []) $ join ! $ frame ! $ nothing ! $
                 owned ! usize (Is usize) (uint-makes 𝓤 H A W w64) k _ (refl, ik) $ fjoin ! $ owned ! P.the-row (Is P.the-row) ((LL.makes P.the-type P′.the-plain) 𝓤 H A) pl _ ipl $ fjoin ! $ move ! (1 ∷ 0 ∷ []) $ fjoin ! $ done !) $
@@ -277,7 +277,7 @@ module _ {M : Type 1} (𝓤 : URA M) (H : Heap 𝓤) (A : Atoms 𝓤) (W : Given
                 move ! (2 ∷ []) $ split ! $ move ! (1 ∷ []) $ peeks ! Nothing (Is Nothing) (shows 𝓤 H A Nothing) un (u ∷ []) (λ ir.
                 land ! (from ! (stop !)) (init ! 10 refl (nothing-lawful 𝓤 H A W .typed un _ ir .0)) $ rewrite ! 10 (λ (v : Val). ‵ (fat fullShare tyUnit l₁₂ 0 v)) (ap only ir) refl $
                 drop ! $ split ! $ lft-end ! tt $ move ! (0 ∷ 4 ∷ 2 ∷ []) $
-                use3 W (later (‵ (Mine (zs .0)) ⊛ ‵ (flft κ q))) (comes-back T.the-row κ (ν ∷ []) q γ b o 𝓤 H A W (named 0) (named 0) ys δ (zs .0) room l) $ await ! tt $ split ! $
+                use3 W (later (‵ (Mine (zs .0)) ⊛ ‵ (flft κ q))) (comes-home T.the-row b o 𝓤 H A W (named 0) κ q γ ys room (ν ∷ []) δ (zs .0) l) $ await ! tt $ split ! $
                 keep ! (0 ∷ 1 ∷ 4 ∷ 5 ∷ 6 ∷ 7 ∷ 8 ∷ 9 ∷ 10 ∷ 11 ∷ 12 ∷ 13 ∷ 14 ∷ 15 ∷ 16 ∷ 17 ∷ 18 ∷ 19 ∷ 20 ∷ 21 ∷ 22 ∷ 23 ∷ 24 ∷ 25 ∷ 26 ∷ 27 ∷ 28 ∷ 29 ∷ 30 ∷ 31 ∷ 32 ∷ 33 ∷ 34 ∷ []) $
                 at-answer-of k (zs .0) l (same-marks (prune nn cnt (map rowOf ys)) ys (zs .0) st pl (est .0) planned (e ∙ ap (markedTo ys (pl .dropped)) ek))))))))))
 
@@ -315,8 +315,8 @@ module _ {M : Type 1} (𝓤 : URA M) (H : Heap 𝓤) (A : Atoms 𝓤) (W : Given
             assigns ! (agg ! (and-then ! (load ! (from ! (stop !)) (look ! 11 refl)) (and-then ! (load ! (from ! (fld ! refl (stop !))) (look-in ! 27 (sub ! 1 refl (whole !)))) (no-more !))))
             (from ! (stop !)) (init ! 9 refl (tt, (tt, (record { fits = room .0 }, tt)))) $
             lft-new ! tt (λ ν. move ! (1 ∷ 2 ∷ []) $
-            use2 W (later (some (λ (δ : GName). ‵ (MutSlice (named 0) (ν ∷ []) T.the-row .own (x δ ys) (s ∷ [])) ⊛ ‵ (LentAgain T.the-row κ (ν ∷ []) q γ b o δ ys))))
-            (lends-again T.the-row κ (ν ∷ []) q γ b o 𝓤 H A W (named 0) (named 0) ys) $ await ! tt $ pick ! (λ δ. split ! $ move ! (2 ∷ 0 ∷ []) $
+            use2 W (later (some (λ (δ : GName). ‵ (MutSlice (named 0) (ν ∷ []) T.the-row .own (x δ ys) (s ∷ [])) ⊛ ‵ (Out T.the-row b o κ q γ (ν ∷ []) δ ys))))
+            (goes-out T.the-row b o 𝓤 H A W (named 0) κ q γ ys room (named 0) (ν ∷ [])) $ await ! tt $ pick ! (λ δ. split ! $ move ! (2 ∷ 0 ∷ []) $
             use2 W (raw (WordsOf 𝓤 H A at-mem run .pre (((ν ∷ [], tt), (fullShare, tt), tt, (x δ ys, (st, (bl, tt))), (s ∷ [], (vint w64 st ∷ [], (wv bl ∷ [], tt)))), tt)))
             (qed W (‵ (flft (ν ∷ []) fullShare) ∷ ‵ (MutSlice (named 0) (ν ∷ []) T.the-row .own (x δ ys) (s ∷ [])) ∷ []) ∵ says ! (est .0) $ nothing ! $ move ! (1 ∷ 0 ∷ []) $ join ! $ frame ! $ nothing ! $
             owned ! Wd.the-row (Is Wd.the-row) ((LL.makes Wd.the-type Wd′.the-plain) 𝓤 H A) bl _ ibl $ fjoin ! $ owned ! usize (Is usize) (uint-makes 𝓤 H A W w64) st _ (refl, ist) $ fjoin ! $ move ! (1 ∷ 0 ∷ []) $ fjoin ! $ done !) $
@@ -329,7 +329,7 @@ module _ {M : Type 1} (𝓤 : URA M) (H : Heap 𝓤) (A : Atoms 𝓤) (W : Given
             let told : u ∷ [] ≡ LL.vals Wd.the-type Wd′.the-laws w = LL.tells Wd.the-type Wd′.the-laws w (u ∷ []) ir in
             land ! (from ! (stop !)) (init ! 20 refl (LL.lawful Wd.the-type Wd′.the-laws 𝓤 H A W .typed w _ ir .0)) $ rewrite ! 20 (λ (v : Val). ‵ (fat fullShare Wd′.mir l₇ 0 v)) (ap only told) refl $
             drop ! $ split ! $ lft-end ! tt $ move ! (0 ∷ 4 ∷ 2 ∷ []) $
-            use3 W (later (‵ (Mine (zs .0)) ⊛ ‵ (flft κ q))) (comes-back T.the-row κ (ν ∷ []) q γ b o 𝓤 H A W (named 0) (named 0) ys δ (zs .0) room l) $ await ! tt $ split ! $
+            use3 W (later (‵ (Mine (zs .0)) ⊛ ‵ (flft κ q))) (comes-home T.the-row b o 𝓤 H A W (named 0) κ q γ ys room (ν ∷ []) δ (zs .0) l) $ await ! tt $ split ! $
             rewrite ! 0 (λ (j : List Cube). ‵ (Mine j)) (e .1) refl $ keep ! (0 ∷ 1 ∷ 4 ∷ 5 ∷ 6 ∷ 7 ∷ 8 ∷ 9 ∷ 10 ∷ 11 ∷ 12 ∷ 13 ∷ 14 ∷ 15 ∷ 16 ∷ 17 ∷ 18 ∷ 19 ∷ 20 ∷ 21 ∷ 22 ∷ 23 ∷ 24 ∷ 25 ∷ 26 ∷ 27 ∷ 28 ∷ 29 ∷ 30 ∷ 31 ∷ 32 ∷ 33 ∷ 34 ∷ []) $
             at-plan-of w (subst (Is Wd.the-row w) told ir) (e .0)))))))))
 

@@ -1,5 +1,5 @@
 //! Writes the data folders, the expected output and the list of cases of the programs under crates/, from the project's root:
-//! `cargo run --manifest-path tests/cases/Cargo.toml`. What is expected comes from the second program alone.
+//! `cargo run --manifest-path tests/cases/Cargo.toml && rt fmt`. What is expected comes from the second program alone.
 
 mod table;
 mod texts;
@@ -26,26 +26,36 @@ fn write(path: &Path, file: &File) -> Vec<u8> {
     }
 }
 
+/// What the test program begins with.
+const CASE: &str = "// Every case folder: its name, and what is printed for its two sheets. Written by tests/cases.
+mod path;
+
+use path::joined;
+
+fn case(folder: &[u8]) {
+    io::write_all(1, folder);
+    io::write_all(1, b\"\\n\");
+    let mut on = [0; 64];
+    let ons = joined(folder, b\"/on.cnf\", &mut on);
+    let mut off = [0; 64];
+    let offs = joined(folder, b\"/off.cnf\", &mut off);
+    running::run(&on[..ons], &off[..offs]);
+}
+";
+
 /// The test program: functions of few cases each, which are quick to prove.
 fn program(groups: &[Group]) -> String {
-    let mut text = String::from(
-        "// Every case folder: its name, and what is printed for its two sheets. Written by tests/cases.\n\
-         fn case(name: &[u8], on: &[u8], off: &[u8]) {\n    io::write_all(1, name);\n    running::run(on, off);\n}\n\n",
-    );
+    let mut text = String::from(CASE);
     let mut calls = String::new();
     for group in groups {
-        for (k, cases) in group.cases.chunks(4).enumerate() {
+        for (k, cases) in group.cases.chunks(6).enumerate() {
             let function = format!("{}_{}", group.name, k + 1);
             calls += &format!("    {function}();\n");
-            text += &format!("fn {function}() {{\n");
-            for case in cases {
-                let name = case.name;
-                text += &format!("    case(b\"{name}\\n\", b\"{name}/on.cnf\", b\"{name}/off.cnf\");\n");
-            }
-            text += "}\n\n";
+            let body: String = cases.iter().map(|case| format!("    case(b\"{}\");\n", case.name)).collect();
+            text += &format!("\nfn {function}() {{\n{body}}}\n");
         }
     }
-    text + &format!("fn main() {{\n{calls}}}\n")
+    text + &format!("\nfn main() {{\n{calls}}}\n")
 }
 
 fn main() {

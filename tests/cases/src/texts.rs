@@ -2,7 +2,8 @@
 
 /// A sheet over n inputs, a clause to a line.
 pub fn sheet(n: u32, numbers: &[i32]) -> String {
-    let body: Vec<String> = numbers.split_inclusive(|&z| z == 0).map(|clause| clause.iter().map(i32::to_string).collect::<Vec<_>>().join(" ")).collect();
+    let body: Vec<String> =
+        numbers.split_inclusive(|&z| z == 0).map(|clause| clause.iter().map(i32::to_string).collect::<Vec<_>>().join(" ")).collect();
     let clauses = numbers.iter().filter(|&&z| z == 0).count();
     format!("p cnf {n} {clauses}\n{}", body.iter().map(|line| format!("{line}\n")).collect::<String>())
 }

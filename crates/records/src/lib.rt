@@ -4,11 +4,7 @@ mod cubes;
 mod plan;
 mod words;
 
-// On records, lent or by value.
 pub use cubes::Cube;
 pub use cubes::Pruned;
 pub use cubes::prune_records;
 pub use cubes::pruned_array;
-
-// On runs of words.
-pub use words::prune_words;

@@ -1,0 +1,2 @@
+-- Laws about what is loaded and printed.
+pub mod Rooms

@@ -1,0 +1,2 @@
+-- What is answered for two files.
+pub mod Answered

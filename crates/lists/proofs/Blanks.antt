@@ -1,8 +1,8 @@
 -- Pruning by blanks leaves what pruning by marks picks.
 use mathlib.Core.Path.{_≡_, refl, sym, ap, _∙_}
-use mathlib.Core.Bool.{Bool, true, false, not, cond, _||_}
+use mathlib.Core.Bool.{Bool, true, false, cond, _||_}
 use mathlib.Core.List.{List, [], _∷_, _++_, append-assoc, append-nil}
-use Prim.Native.Nat.{ℕ, suc, _+_, _≤_, _<_}
+use Prim.Native.Nat.{ℕ, suc, _≤_, _<_}
 use native.Mathlib.Nat.{le-of-suc-le-suc, not-suc-le-zero}
 use native.Mathlib.Numerals.{add-one}
 use native.Mathlib.Omega.{arith}
@@ -12,7 +12,7 @@ use lib.ListN.{length, take, drop, getD, set, length-append, drop-of-length-le}
 use lib.Seq.{drop-cons, take-suc, length-take-le}
 use borrow.Author.Tests.{eqb-true, ne-eqb}
 use Rattle.rules.specs.declared.Row.{Row}
-use Rattle.rules.specs.Words.{holds, isRow, fits, inSome, one}
+use Rattle.rules.specs.Words.{holds, isRow, fits, inSome}
 use Rattle.rules.specs.Method.{needed, marksAfter, marks, picked}
 use Rattle.rules.specs.Calls.{kept}
 use Rattle.rules.proofs.Logic.{clash, and-both, fails}

@@ -1,6 +1,6 @@
 -- What building a list has found and kept, stage by stage.
 use mathlib.Core.Path.{_≡_, refl, sym, ap, _∙_, subst}
-use mathlib.Core.Bool.{Bool, true, _&&_}
+use mathlib.Core.Bool.{Bool, true}
 use mathlib.Core.List.{List, [], _∷_, _++_}
 use mathlib.Core.Option.{Option}
 use Prim.Native.Nat.{ℕ, _+_, _*_, _≤_}
@@ -25,9 +25,8 @@ use Rattle.lists.specs.Lent.{asks, firstRows, behind}
 use Rattle.lists.specs.Built.{Lent}
 use Rattle.lists.proofs.Blanks.{blanked-length, solid-all}
 use Rattle.lists.proofs.Next.{collision-found}
-use Rattle.lists.proofs.Kept.{first-rows}
 use Rattle.lists.proofs.Judges.{rows-split, over-rows}
-use Rattle.lists.proofs.Standing.{behind-rows, front-rows, solid-list, list-length}
+use Rattle.lists.proofs.Standing.{behind-rows, solid-list, list-length}
 
 cares-of-rows : (n : ℕ) (rows : List Row) → All (λ r. isRow n r ≡ true) rows → caresWithin n rows ≡ true
 unfolding caresWithin

@@ -1,22 +1,20 @@
 -- From the input's form to the method, and from the method's answer to the call's.
 use mathlib.Core.Path.{_≡_, refl, sym, ap, _∙_, subst}
-use mathlib.Core.Bool.{Bool, true, false, not, _&&_}
-use mathlib.Core.List.{List, [], _∷_, _++_}
-use mathlib.Core.Option.{Option, none, some}
-use Prim.Native.Nat.{ℕ, _^_, _<_, _≤_}
+use mathlib.Core.Bool.{Bool, true, false, not}
+use mathlib.Core.List.{List, [], _∷_}
+use mathlib.Core.Option.{none, some}
+use Prim.Native.Nat.{ℕ, _<_, _≤_}
 use lib.Dec.{ltb}
 use lib.IntN.{ℤ}
 use lib.ListN.{length}
 use borrow.Author.Tests.{lt-ltb, le-ltb}
-use Rattle.rules.specs.declared.Row.{Row}
-use Rattle.rules.specs.Words.{isInputs, isOrder, inSome, one}
+use Rattle.rules.specs.Words.{isInputs, isOrder, one}
 use Rattle.rules.specs.Sheets.{satisfies, everyClause, wellFormed}
-use Rattle.rules.specs.Search.{found}
 use Rattle.rules.specs.Method.{maxRows, generated, complete, listOf}
-use Rattle.rules.specs.Answers.{Reply, Check, judge, Verdict, given, refused, refusal, answered, replyOf}
-use Rattle.rules.specs.Calls.{lent, collision, listed, listValues, wholeFor, whole, Partial, partialFor, partial, partialValues}
-use Rattle.rules.proofs.Orders.{IsOrder, is-order}
-use Rattle.rules.proofs.Same.{Same, whole-same, partial-same}
+use Rattle.rules.specs.Answers.{judge, given, refused, refusal, answered, replyOf}
+use Rattle.rules.specs.Calls.{lent, collision, listValues, wholeFor, whole, partialFor, partial, partialValues}
+use Rattle.rules.proofs.Orders.{is-order}
+use Rattle.rules.proofs.Same.{whole-same, partial-same}
 use Rattle.sheets.specs.Barred.{barred}
 use Rattle.sheets.proofs.Bars.{barred-is}
 use Rattle.search.specs.Question.{good}

@@ -1,18 +1,17 @@
 -- An input that is not in form is refused alike by both list calls.
-use mathlib.Core.Path.{_≡_, refl, sym, ap, _∙_}
-use mathlib.Core.Bool.{Bool, true, false, not, cond, _&&_}
-use mathlib.Core.List.{List, [], _∷_, _++_}
+use mathlib.Core.Path.{_≡_, refl, ap}
+use mathlib.Core.Bool.{Bool, true, false, not, cond}
+use mathlib.Core.List.{List, _∷_}
 use Prim.Native.Nat.{ℕ, _<_}
 use native.Mathlib.Omega.{arith}
 use lib.IntN.{ℤ}
 use borrow.Author.Tests.{lt-ltb}
-use Rattle.rules.specs.declared.Row.{Row}
 use Rattle.rules.specs.declared.Refusal.{Refusal}
 use Rattle.rules.specs.Words.{isInputs, isOrder}
 use Rattle.rules.specs.Sheets.{wellFormed}
 use Rattle.rules.specs.Method.{maxRows}
-use Rattle.rules.specs.Answers.{Check, check, judge, Verdict, refused, refusal, refusalReply}
-use Rattle.rules.specs.Calls.{lent, wholeFor, whole, Partial, partialFor, partial}
+use Rattle.rules.specs.Answers.{Check, check, judge, refused, refusal, refusalReply}
+use Rattle.rules.specs.Calls.{lent, wholeFor, whole, partialFor, partial}
 use Rattle.lists.specs.declared.formed.Form.{Form}
 use Rattle.lists.specs.Formed.{formOf}
 

@@ -1,6 +1,6 @@
 -- The barred rows of two sheets make what list building is lent.
 use mathlib.Core.Path.{_≡_, refl, sym, ap, ap₂, _∙_, subst}
-use mathlib.Core.Bool.{Bool, true, _&&_}
+use mathlib.Core.Bool.{true}
 use mathlib.Core.List.{List, [], _∷_, _++_, append-assoc, append-nil}
 use Prim.Native.Nat.{ℕ, _+_, _-_, _*_, _≤_}
 use native.Mathlib.Omega.{arith}
@@ -18,10 +18,9 @@ use Rattle.rules.specs.Answers.{over}
 use Rattle.rules.specs.Calls.{areRows, wordsOf}
 use Rattle.rules.proofs.Logic.{and-both, and-join}
 use Rattle.sheets.specs.Barred.{barred, rowsOf, pairsOf}
-use Rattle.sheets.specs.Numbers.{numbersOf}
 use Rattle.sheets.proofs.Bars.{barred-length, barred-rows}
 use Rattle.sheets.proofs.Clauses.{form-reach}
-use Rattle.sheets.proofs.Pairs.{pairs-append, pairs-length, rows-pairs, over-length, first-pairs}
+use Rattle.sheets.proofs.Pairs.{pairs-append, pairs-length, rows-pairs, over-length}
 use Rattle.search.specs.Question.{caresWithin, Asked}
 use Rattle.lists.specs.Lent.{firstRows}
 use Rattle.lists.specs.Built.{Lent}

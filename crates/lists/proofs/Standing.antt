@@ -2,12 +2,12 @@
 use mathlib.Core.Path.{_≡_, refl, sym, ap, _∙_, subst, fun-ext}
 use mathlib.Core.Bool.{Bool, true, false, cond}
 use mathlib.Core.List.{List, [], _∷_, _++_, append-assoc, append-nil}
-use Prim.Native.Nat.{ℕ, zero, suc, _+_, _-_, _*_, _≤_, _<_}
+use Prim.Native.Nat.{ℕ, suc, _+_, _-_, _*_, _≤_}
 use native.Mathlib.Nat.{zero-add}
 use native.Mathlib.Omega.{arith}
 use lib.ListN.{length, take, drop, length-append, length-take, length-drop, drop-of-length-le}
 use lib.Seq.{take-all, take-at, drop-at}
-use borrow.Rule.Slice.PartMut.{putMid, postOf}
+use borrow.Rule.Slice.PartMut.{putMid}
 use Rattle.rules.specs.declared.Row.{Row}
 use Rattle.rules.specs.Words.{one, isRow}
 use Rattle.rules.specs.Sheets.{satisfies, everyClause}
@@ -18,7 +18,7 @@ use Rattle.rules.specs.Words.{inSome}
 use Rattle.rules.proofs.Generation.{All}
 use Rattle.sheets.specs.Barred.{rowsOf, pairsOf}
 use Rattle.sheets.specs.Numbers.{numbersOf}
-use Rattle.sheets.proofs.Pairs.{pairs-append, pairs-length, rows-pairs}
+use Rattle.sheets.proofs.Pairs.{pairs-append, pairs-length}
 use Rattle.search.specs.Question.{good, Asked}
 use Rattle.lists.specs.Blank.{blanked, solid}
 use Rattle.lists.specs.Lent.{firstRows, behind, staying}

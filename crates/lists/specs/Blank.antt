@@ -1,5 +1,5 @@
 -- Pruning where the rows stand: a row that goes is blanked. A blank holds no setting, and no row of a list is one.
-use mathlib.Core.Bool.{Bool, true, false, cond, _&&_}
+use mathlib.Core.Bool.{Bool, cond, _&&_}
 use mathlib.Core.List.{List, [], _∷_}
 use Prim.Native.Nat.{ℕ}
 use lib.Dec.{eqb}

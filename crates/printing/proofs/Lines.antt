@@ -1,7 +1,7 @@
 -- A refusal's line: its setting one character more, its values, and its length.
 use mathlib.Core.Path.{_≡_, refl, ap, _∙_}
-use mathlib.Core.List.{List, [], _∷_, _++_}
-use Prim.Native.Nat.{ℕ, zero, suc, _+_, _≤_, _<_}
+use mathlib.Core.List.{[], _∷_, _++_}
+use Prim.Native.Nat.{ℕ, zero, suc, _+_, _≤_}
 use native.Mathlib.Nat.{add-comm}
 use native.Mathlib.Omega.{arith}
 use lib.Dec.{eqb}
@@ -13,7 +13,7 @@ use Rattle.rules.specs.declared.Refusal.the-variants.{Inputs, Order, OnSheet, O
 use Rattle.rules.specs.Answers.{refusalReply}
 use Rattle.rules.specs.Calls.{first}
 use Rattle.rules.specs.Pla.{digits, settingChars}
-use Rattle.rules.specs.Program.{settingsLine, refusalLine}
+use Rattle.rules.specs.Program.{refusalLine}
 use Rattle.rules.proofs.Logic.{clash}
 
 -- one character more

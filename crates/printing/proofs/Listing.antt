@@ -1,22 +1,18 @@
 -- What the whole list's answer says of its rows, and its text.
-use mathlib.Core.Path.{_≡_, refl, sym, ap, ap₂, subst, _∙_}
-use mathlib.Core.Bool.{true, _&&_}
+use mathlib.Core.Path.{_≡_, refl, sym, ap, ap₂, _∙_}
+use mathlib.Core.Bool.{true}
 use mathlib.Core.List.{List, [], _∷_, _++_}
 use Prim.Native.Nat.{ℕ, suc, _≤_}
 use native.Mathlib.Omega.{arith}
-use lib.Dec.{leb}
 use lib.IntN.{ℤ}
 use lib.ListN.{length, take, drop, length-append}
 use borrow.Author.Tests.{le-leb}
 use Rattle.rules.specs.declared.Row.{Row}
-use Rattle.rules.specs.declared.Refusal.{Refusal}
 use Rattle.rules.specs.declared.ListAnswer.{ListAnswer}
 use Rattle.rules.specs.declared.ListAnswer.the-variants as list
-use Rattle.rules.specs.Words.{natural}
-use Rattle.rules.specs.Sheets.{satisfies}
-use Rattle.rules.specs.Method.{maxRows, listOf}
-use Rattle.rules.specs.Answers.{Verdict, given, refused, refusalReply, listReply, replyOf, over, after}
-use Rattle.rules.specs.Calls.{Run, areRows, rowsIn, whole, listValues, cares, values, lent, first}
+use Rattle.rules.specs.Method.{maxRows}
+use Rattle.rules.specs.Answers.{given, listReply, replyOf, over, after}
+use Rattle.rules.specs.Calls.{Run, areRows, rowsIn, whole, listValues, cares, values, first}
 use Rattle.rules.specs.Pla.{textOf}
 use Rattle.rules.specs.Program.{shown}
 use Rattle.rules.proofs.Logic.{and-join}

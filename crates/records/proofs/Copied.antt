@@ -1,7 +1,7 @@
 -- The words of the first records, copied out, are those of their rows; and as many are copied as the verdict needs.
 use mathlib.Core.Path.{_≡_, refl, sym, ap, ap₂, _∙_}
 use mathlib.Core.Bool.{Bool, true, false, cond, _&&_, and-false}
-use mathlib.Core.List.{List, [], _∷_, _++_, map, map-append}
+use mathlib.Core.List.{List, [], _∷_, map, map-append}
 use Prim.Native.Nat.{ℕ, zero, suc, _≤_, _<_}
 use native.Mathlib.Omega.{arith}
 use lib.Dec.{leb}
@@ -11,7 +11,7 @@ use borrow.Author.Tests.{le-leb, lt-leb, leb-true}
 use Rattle.rules.specs.declared.Row.{Row}
 use Rattle.rules.specs.Words.{isInputs, natural}
 use Rattle.rules.specs.Method.{maxRows, marks, all}
-use Rattle.rules.specs.Answers.{Verdict, given, over, refused, refusal}
+use Rattle.rules.specs.Answers.{given, over}
 use Rattle.rules.specs.Calls.{areRows, prune, rowsIn}
 use Rattle.rules.proofs.Logic.{test, fails, clash, and-both, and-join}
 use Rattle.sheets.proofs.Pairs.{over-more}

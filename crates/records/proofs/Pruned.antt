@@ -1,11 +1,10 @@
 -- The run of records after the whole call: the words copied out give the verdict on the records, and the marks written back are its marks.
-use mathlib.Core.Path.{_≡_, sym, ap, ap₂, _∙_, subst}
+use mathlib.Core.Path.{_≡_, sym, ap, _∙_}
 use mathlib.Core.Bool.{Bool}
 use mathlib.Core.List.{List, map}
 use Prim.Native.Nat.{ℕ, _≤_}
 use native.Mathlib.Omega.{arith}
 use lib.ListN.{length, take, length-map}
-use Rattle.rules.specs.declared.Row.{Row}
 use Rattle.rules.specs.Method.{maxRows}
 use Rattle.rules.specs.Answers.{Verdict}
 use Rattle.rules.specs.Calls.{prune, rowsIn}

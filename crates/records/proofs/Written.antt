@@ -1,5 +1,5 @@
 -- The marks written back, one after the other, are those of the verdict.
-use mathlib.Core.Path.{_≡_, refl, sym, ap, ap₂, _∙_}
+use mathlib.Core.Path.{_≡_, refl, sym, ap, _∙_}
 use mathlib.Core.Bool.{Bool, true, false, not}
 use mathlib.Core.List.{List, [], _∷_, _++_, map, map-append}
 use Prim.Native.Nat.{ℕ, zero, suc, _≤_, _<_}
@@ -8,7 +8,6 @@ use native.Mathlib.Omega.{arith}
 use lib.Dec.{eqb}
 use lib.ListN.{length, getD, take, set, length-map, length-set}
 use lib.Seq.{take-suc, length-take-le}
-use Rattle.rules.specs.Words.{one}
 use Rattle.rules.specs.Answers.{Verdict, given, refused}
 use Rattle.records.specs.declared.cubes.Cube.{Cube}
 use Rattle.records.specs.Marks.{withMark, markedBy, marked}

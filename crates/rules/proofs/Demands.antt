@@ -1,24 +1,22 @@
 -- What was promised, as theorems about the definitions; above each stands the sentence of the request that it is.
 -- An accepted pair is one for which `whole` gives rows. `satisfies (on .items)` are its on settings.
-use mathlib.Core.Path.{_≡_, refl, sym, ap, ap₂, _∙_, subst}
-use mathlib.Core.Bool.{Bool, true, false, not, _&&_, _||_}
+use mathlib.Core.Path.{_≡_, refl, sym, ap, _∙_, subst}
+use mathlib.Core.Bool.{Bool, true, false, _&&_, _||_}
 use mathlib.Core.List.{List, [], _∷_, _++_}
 use mathlib.Core.Logic.{_⊎_, inl, inr, _↔_}
-use mathlib.Core.Option.{Option, none, some}
-use Prim.Native.Nat.{ℕ, _+_, _^_, _<_, _≤_}
+use mathlib.Core.Option.{none, some}
+use Prim.Native.Nat.{ℕ, _+_, _^_, _<_}
 use lib.IntN.{ℤ}
-use lib.ListN.{length}
 use Rattle.rules.specs.declared.Row.{Row}
-use Rattle.rules.specs.Words.{isInputs, isOrder, holds, isRow, fixes, dashes, without, smaller, inSome}
+use Rattle.rules.specs.Words.{holds, isRow, fixes, dashes, without, smaller, inSome}
 use Rattle.rules.specs.Sheets.{satisfies}
 use Rattle.rules.specs.Search.{smallest}
 use Rattle.rules.specs.Method.{next, generated, pruned, all}
 use Rattle.rules.specs.Answers.{Reply, Verdict, given, refused, after}
 use Rattle.rules.specs.Pla.{textOf, readAt}
-use Rattle.rules.specs.Calls.{Run, Partial, Read, notWellFormed, collision, whole, partial, query, prune, value, write, read}
-use Rattle.rules.proofs.Logic.{and-both}
-use Rattle.rules.proofs.Rows.{dashes-row, dashes-holds}
-use Rattle.rules.proofs.Orders.{IsOrder, is-order}
+use Rattle.rules.specs.Calls.{Run, notWellFormed, collision, whole, partial, query, prune, value, write, read}
+use Rattle.rules.proofs.Rows.{dashes-row}
+use Rattle.rules.proofs.Orders.{IsOrder}
 use Rattle.rules.proofs.Smallest.{smallest-passes, smallest-held, smallest-below, smallest-none, smallest-least}
 use Rattle.rules.proofs.Widening.{Meets}
 use Rattle.rules.proofs.Generation.{All, Prime, Fresh, generated-fresh, begins}
@@ -28,7 +26,7 @@ use Rattle.rules.proofs.Same.{Same, same-whole, same-partial}
 use Rattle.rules.proofs.PlaText.{text-reads, text-inputs}
 use Rattle.rules.proofs.Judged.{Lowest}
 use Rattle.rules.proofs.Refusals.{refused-lowest, wholeChecks, whole-judges, partialChecks, partial-judges, queryChecks, query-judges, pruneChecks, prune-judges, valueChecks, value-judges, writeChecks, write-judges, readChecks, read-judges}
-use Rattle.rules.proofs.Listed.{Right, accepted-order, accepted-inputs, accepted-right, decided-value}
+use Rattle.rules.proofs.Listed.{Right, accepted-inputs, accepted-right, decided-value}
 
 -- DEMAND 1. Every sheet, order, text and length gets an answer or one of the numbered refusals.
 pub answered-or-refused : {A : Type 0} (v : Verdict A) → ((a : A) × (v ≡ given a)) ⊎ ((r : Reply) × (v ≡ refused r))

@@ -6,16 +6,16 @@ use mathlib.Core.Option.{Option, none, some}
 use Prim.Native.Nat.{ℕ, zero, suc, _+_, _-_, _^_, _<_, _≤_}
 use native.Mathlib.Nat.{zero-add, suc-add}
 use native.Mathlib.Omega.{arith}
-use lib.Dec.{eqb, ltb}
+use lib.Dec.{ltb}
 use lib.ListN.{length, length-append}
 use borrow.Author.Tests.{eqb-true, eq-eqb, ltb-true, ltb-false}
 use Rattle.rules.specs.declared.Row.{Row}
 use Rattle.rules.specs.Words.{holds, isRow, fixes, fits, dashes, full, without, inSome}
 use Rattle.rules.specs.Search.{found}
-use Rattle.rules.specs.Method.{next, widen, widenAt, grown, generated, complete}
+use Rattle.rules.specs.Method.{next, widen, grown, generated, complete}
 use Rattle.rules.proofs.Logic.{test, option, clash, some-none, and-both, and-join, fails, not-yes, yes-not}
-use Rattle.rules.proofs.Bits.{bit, bit-high}
-use Rattle.rules.proofs.Rows.{dashes-row, dashes-holds, full-row, full-holds, inSome-append, inSome-one}
+use Rattle.rules.proofs.Bits.{bit-high}
+use Rattle.rules.proofs.Rows.{dashes-row, dashes-holds, full-row, full-holds}
 use Rattle.rules.proofs.Orders.{has, IsOrder}
 use Rattle.rules.proofs.Smallest.{smallest-passes, smallest-below, smallest-none}
 use Rattle.rules.proofs.Widening.{Misses, Meets, widen-row, widen-holds, widen-misses, widen-tight}

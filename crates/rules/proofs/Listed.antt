@@ -8,7 +8,7 @@ use lib.Dec.{leb}
 use lib.IntN.{ℤ}
 use borrow.Author.Tests.{leb-true}
 use Rattle.rules.specs.declared.Row.{Row}
-use Rattle.rules.specs.Words.{maxInputs, isRow, dashes, inSome}
+use Rattle.rules.specs.Words.{maxInputs, dashes, inSome}
 use Rattle.rules.specs.Sheets.{satisfies}
 use Rattle.rules.specs.Method.{maxRows, generated, pruned, all, listOf}
 use Rattle.rules.specs.Answers.{given}

@@ -1,5 +1,5 @@
 -- Demand 3 of the program: what is printed for two texts that read as sheets over the same inputs.
-use mathlib.Core.Path.{_≡_, refl, sym, ap, ap₂, _∙_, subst}
+use mathlib.Core.Path.{_≡_, sym, ap, _∙_, subst}
 use mathlib.Core.Bool.{true, false, not}
 use mathlib.Core.List.{List, [], _∷_}
 use Prim.Native.Nat.{ℕ, _^_, _<_}
@@ -9,10 +9,10 @@ use Rattle.rules.specs.declared.Row.{Row}
 use Rattle.rules.specs.Words.{inSome, natural}
 use Rattle.rules.specs.Sheets.{maxNumbers, satisfies, wellFormed}
 use Rattle.rules.specs.Method.{maxRows}
-use Rattle.rules.specs.Answers.{Reply, given, refused, check, judge}
+use Rattle.rules.specs.Answers.{given, check}
 use Rattle.rules.specs.Pla.{textOf, readAt}
 use Rattle.rules.specs.Calls.{Read, lent, read, whole}
-use Rattle.rules.specs.Program.{refusalLine, shown, listOutput, output}
+use Rattle.rules.specs.Program.{shown, listOutput, output}
 use Rattle.rules.proofs.Logic.{no-not}
 use Rattle.rules.proofs.Judged.{judge-none}
 use Rattle.rules.proofs.ReadForm.{read-form}

@@ -1,8 +1,8 @@
 -- The outcome depends only on which settings are on and which are off.
-use mathlib.Core.Path.{_≡_, refl, sym, ap, ap₂, _∙_, subst}
+use mathlib.Core.Path.{_≡_, refl, ap, ap₂, _∙_}
 use mathlib.Core.Bool.{Bool, true, false, not, cond, _&&_}
 use mathlib.Core.List.{List, [], _∷_, _++_}
-use mathlib.Core.Option.{Option, none, some}
+use mathlib.Core.Option.{Option}
 use Prim.Native.Nat.{ℕ, zero, suc, _^_, _<_}
 use lib.Dec.{ltb}
 use lib.IntN.{ℤ}
@@ -10,10 +10,10 @@ use lib.ListN.{length}
 use Rattle.rules.specs.declared.Row.{Row}
 use Rattle.rules.specs.Words.{isOrder, isRow, dashes, full, without, inSome}
 use Rattle.rules.specs.Sheets.{satisfies}
-use Rattle.rules.specs.Search.{smallest, found, holdsSome}
+use Rattle.rules.specs.Search.{found, holdsSome}
 use Rattle.rules.specs.Method.{maxRows, next, widenAt, widen, grown, generated, complete, pruned, all, listOf}
 use Rattle.rules.specs.Answers.{Check, check, judge}
-use Rattle.rules.specs.Calls.{Run, refusal2, form, notWellFormed, collision, wholeFor, whole, Partial, partialFor, partial}
+use Rattle.rules.specs.Calls.{Run, refusal2, form, notWellFormed, collision, wholeFor, whole, partialFor, partial}
 use Rattle.rules.proofs.Logic.{test, option, and-both, yes-not}
 use Rattle.rules.proofs.Rows.{dashes-row, without-row}
 use Rattle.rules.proofs.Orders.{IsOrder, is-order}

@@ -1,6 +1,6 @@
 -- P1 to P12: what the paper says is what the definitions come to.
 use mathlib.Core.Path.{_≡_, refl}
-use mathlib.Core.List.{List, map}
+use mathlib.Core.List.{map}
 use Rattle.rules.specs.Words.{times, eachOnce, isOrder, counting, smaller, inSome}
 use Rattle.rules.specs.Sheets.{everyClause, satisfies, clauses, endsClosed, inReach, wellFormed}
 use Rattle.rules.specs.Search.{smallest}

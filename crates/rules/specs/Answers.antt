@@ -1,11 +1,9 @@
 -- What a call answers: this paper's number and values for each case of each answer; and how the refusals of a call are judged.
-use mathlib.Core.Bool.{Bool, true, false, not, cond}
+use mathlib.Core.Bool.{Bool, cond}
 use mathlib.Core.List.{List, [], _∷_, _++_}
-use mathlib.Core.Option.{Option, none, some}
 use Prim.Native.Nat.{ℕ}
 use lib.ListN.{length, drop}
 use Rattle.rules.specs.Words.{one}
-use Rattle.rules.specs.Search.{found}
 use Rattle.rules.specs.declared.Refusal.{Refusal}
 use Rattle.rules.specs.declared.ListAnswer.{ListAnswer}
 use Rattle.rules.specs.declared.PartialAnswer.{PartialAnswer}

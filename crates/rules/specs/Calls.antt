@@ -1,5 +1,5 @@
 -- The calls: the outcome of each, its refusals in the order of their numbers, and what each lent run holds afterwards.
-use mathlib.Core.Bool.{Bool, true, false, not, _&&_, _||_}
+use mathlib.Core.Bool.{Bool, true, false, not, _&&_}
 use mathlib.Core.List.{List, [], _∷_, _++_, map}
 use mathlib.Core.Option.{Option, none, some, Option·getD}
 use Prim.Native.Nat.{ℕ, _+_, _*_, _/_, _%_, min}
@@ -13,8 +13,8 @@ use Rattle.rules.specs.Words.{isInputs, isOrder, isRow, fits, dashes, in
 use Rattle.rules.specs.Sheets.{maxNumbers, wellFormed, satisfies, clauses, endsClosed}
 use Rattle.rules.specs.Search.{smallest, found, notBelow}
 use Rattle.rules.specs.Method.{maxRows, generated, complete, listOf, marks, all}
-use Rattle.rules.specs.Answers.{Reply, Check, check, Verdict, given, refused, judge, replyOf, over, after}
-use Rattle.rules.specs.Dimacs.{maxBytes, Header, header, numbers, tokens}
+use Rattle.rules.specs.Answers.{Reply, Check, check, Verdict, judge}
+use Rattle.rules.specs.Dimacs.{maxBytes, header, numbers, tokens}
 use Rattle.rules.specs.Pla.{textOf}
 
 -- How a run is lent. Words stand as they are; in bytes a word is four, lowest first, and one to three may be left over.

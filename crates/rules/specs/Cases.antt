@@ -1,15 +1,14 @@
 -- The sheets tried by hand, P1 to P12: what is asked, and what the paper says. Rows and settings show variable 1 first.
 use mathlib.Core.List.{List, [], _∷_, map}
-use mathlib.Core.Option.{Option, none, some, Option·getD}
+use mathlib.Core.Option.{Option·getD}
 use Prim.Native.Nat.{ℕ}
 use Prim.Native.String.{String}
 use lib.IntN.{ℤ}
-use Rattle.rules.specs.declared.Row.{Row}
 use Rattle.rules.specs.Words.{natural}
-use Rattle.rules.specs.Answers.{Reply, Verdict, given, refused}
+use Rattle.rules.specs.Answers.{Verdict, given, refused}
 use Rattle.rules.specs.Dimacs.{ascii, tokens, numbers}
 use Rattle.rules.specs.Pla.{rowChars, settingChars}
-use Rattle.rules.specs.Calls.{Run, lent, whole, Partial, partial, query, listed}
+use Rattle.rules.specs.Calls.{Run, lent, whole, partial, query, listed}
 use Rattle.rules.specs.Program.{output}
 
 -- The refusal's number, or 0; and the rows, or the setting.

@@ -1,5 +1,5 @@
 -- Words and numbers: settings, orders and rows. A setting is a word, and bit v - 1 of it belongs to variable v.
-use mathlib.Core.Bool.{Bool, true, false, not, _&&_, _||_}
+use mathlib.Core.Bool.{Bool, true, false, _&&_, _||_}
 use mathlib.Core.List.{List, [], _∷_}
 use Prim.Native.Nat.{ℕ, zero, suc, _+_, _-_, _/_, _%_, _^_}
 use lib.Bits.{bitAnd, bitOr}

@@ -1,18 +1,15 @@
 -- The off text is refused, or it names other inputs, or the list of both sheets is printed.
-use mathlib.Core.Path.{_≡_, sym, ap, subst, _∙_}
+use mathlib.Core.Path.{_≡_, sym}
 use mathlib.Core.List.{List}
-use Prim.Native.Nat.{ℕ, _≤_}
-use native.Mathlib.Omega.{arith}
 use denote.Ref.{now}
 use lib.IntN.{ℤ, pos}
-use lib.ListN.{length, take, replicate}
+use lib.ListN.{take, replicate}
 use lib.Seq.{length-take-le}
 use Rattle.rules.specs.Sheets.{maxNumbers}
 use Rattle.rules.specs.Answers.{after, readReply, replyOf}
 use Rattle.rules.specs.Calls.{Read, read, readValues}
 use Rattle.rules.specs.Program.{listOutput}
 use Rattle.pla.proofs.Positions.{puts-over}
-use Rattle.printing.specs.Printed.{outputAfterOn}
 use Rattle.printing.proofs.Replies.{Sheet, read-sheet, read-refused}
 use Rattle.printing.proofs.Outputs.{off-refused, other-inputs, same-inputs}
 use borrow.Author.Needs.{needs}

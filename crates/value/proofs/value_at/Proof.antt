@@ -1,6 +1,6 @@
 -- Each refusal is the verdict where the ones before it do not apply; else the verdict is whether some row holds the setting.
 use mathlib.Core.Path.{_≡_, sym, ap, _∙_}
-use mathlib.Core.Bool.{Bool, true}
+use mathlib.Core.Bool.{true}
 use mathlib.Core.List.{List, [], _∷_}
 use denote.Ref.{now}
 use Rattle.rules.specs.declared.Row.{Row}

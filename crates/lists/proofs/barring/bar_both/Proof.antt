@@ -1,4 +1,4 @@
-use mathlib.Core.Path.{_≡_, refl, sym, ap, _∙_}
+use mathlib.Core.Path.{_≡_}
 use Prim.Native.Nat.{ℕ, _+_, _*_, _≤_}
 use native.Mathlib.Omega.{arith}
 use lib.ListN.{length}
@@ -11,8 +11,6 @@ use Rattle.sheets.proofs.Bars.{barred-length}
 use Rattle.lists.proofs.Lending.{behind-room, both-laid, part-room}
 use Rattle.lists.proofs.barring.bar_both.Statement.{statement}
 use Rattle.lists.proofs.barring.bar_both.Tie as tie
-use Rattle.lists.proofs.barring.bar_both.Reads as reads
-use Rattle.lists.proofs.barring.bar_both.Lts as lts
 
 -- a clause bars at most one row
 fits-both : (off on : List ℤ) (m size : ℕ) → m ≡ length (barred off) → 2 * (clauses off + clauses on) ≤ size → 2 * (m + length (barred on)) ≤ size

@@ -1,7 +1,5 @@
-use mathlib.Core.Path.{_≡_, refl, sym, ap, _∙_}
-use mathlib.Core.Bool.{Bool, true, false}
-use mathlib.Core.Option.{Option}
-use Prim.Native.Nat.{ℕ, _≤_}
+use mathlib.Core.Path.{refl, sym, ap, _∙_}
+use Prim.Native.Nat.{_≤_}
 use native.Mathlib.Omega.{arith}
 use lib.ListN.{length}
 use lib.Seq.{length-take-le}
@@ -13,8 +11,6 @@ use Rattle.lists.proofs.Builds.{reply-collides, reply-too-many, reply-n
 use Rattle.lists.proofs.Building.{met-is, made-room, made-asked, stay-is, left-stands, list-is}
 use Rattle.lists.proofs.build.build.Statement.{statement}
 use Rattle.lists.proofs.build.build.Tie as tie
-use Rattle.lists.proofs.build.build.Reads as reads
-use Rattle.lists.proofs.build.build.Lts as lts
 
 all-rows : maxRows ≤ maxRows
 all-rows = omega arith

@@ -1,21 +1,9 @@
-use mathlib.Core.Path.{_≡_, sym, ap, _∙_}
-use mathlib.Core.List.{List, []}
-use Prim.Native.Nat.{ℕ}
-use lib.ListN.{length}
+use mathlib.Core.Path.{ap, _∙_}
 use borrow.Author.Needs.{needs}
-use Rattle.rules.specs.declared.Row.{Row}
-use Rattle.rules.specs.Answers.{over}
-use Rattle.rules.specs.Calls.{kept, wordsOf}
-use Rattle.sheets.specs.Barred.{pairsOf}
-use Rattle.sheets.specs.Numbers.{numbersOf}
-use Rattle.search.specs.Question.{Asked}
-use Rattle.lists.proofs.Blanks.{blanked-length}
-use Rattle.lists.proofs.Prunes.{behind-size}
+use Rattle.rules.specs.Calls.{kept}
 use Rattle.lists.proofs.Standing.{part-first, part-room, part-left, pruned-back, nothing-asked}
 use Rattle.lists.proofs.build.prune_behind.Statement.{statement}
 use Rattle.lists.proofs.build.prune_behind.Tie as tie
-use Rattle.lists.proofs.build.prune_behind.Reads as reads
-use Rattle.lists.proofs.build.prune_behind.Lts as lts
 
 mul-prune : tie.Need-mul-prune
 mul-prune c = search needs

@@ -7,8 +7,6 @@ use Rattle.lists.proofs.Builds.{reply-collides-part, reply-no-room-part
 use Rattle.lists.proofs.Building.{met-is, made-room, made-behind}
 use Rattle.lists.proofs.build_part.build_part.Statement.{statement}
 use Rattle.lists.proofs.build_part.build_part.Tie as tie
-use Rattle.lists.proofs.build_part.build_part.Reads as reads
-use Rattle.lists.proofs.build_part.build_part.Lts as lts
 
 dashes-requires : tie.Need-dashes-requires
 dashes-requires c κs = search needs

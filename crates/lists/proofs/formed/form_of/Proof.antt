@@ -1,13 +1,9 @@
-use mathlib.Core.Path.{_≡_, sym, _∙_}
+use mathlib.Core.Path.{sym, _∙_}
 use borrow.Author.Needs.{needs}
 use borrow.Author.Tests.{not-true, not-false}
 use Rattle.rules.proofs.Inputs.{inputs-between, inputs-none, inputs-many}
 use Rattle.lists.proofs.formed.form_of.Statement.{statement}
 use Rattle.lists.proofs.formed.form_of.Tie as tie
-use Rattle.lists.proofs.formed.form_of.Reads as reads
-use Rattle.lists.proofs.formed.form_of.Lts as lts
-use Rattle.sheets.proofs.well_formed.Reads as well-formed-reads
-use Rattle.sheets.proofs.is_order.Reads as is-order-reads
 
 returns : tie.Need-returns
 returns c = rw (inputs-none _ (c .if1 .taken))

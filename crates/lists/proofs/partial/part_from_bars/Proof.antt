@@ -15,8 +15,6 @@ use Rattle.lists.proofs.Wholes.{ready}
 use Rattle.lists.proofs.Parts.{asked-part, part-reply, part-leaves, part-stands, part-fits, part-left}
 use Rattle.lists.proofs.partial.part_from_bars.Statement.{statement}
 use Rattle.lists.proofs.partial.part_from_bars.Tie as tie
-use Rattle.lists.proofs.partial.part_from_bars.Reads as reads
-use Rattle.lists.proofs.partial.part_from_bars.Lts as lts
 
 bar-requires : tie.Need-bar-requires
 bar-requires c κs =

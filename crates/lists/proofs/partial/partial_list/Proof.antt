@@ -5,8 +5,6 @@ use Rattle.lists.proofs.Forms.{partial-refused, partial-asked}
 use Rattle.lists.proofs.Parts.{refused-reply, refused-run}
 use Rattle.lists.proofs.partial.partial_list.Statement.{statement}
 use Rattle.lists.proofs.partial.partial_list.Tie as tie
-use Rattle.lists.proofs.partial.partial_list.Reads as reads
-use Rattle.lists.proofs.partial.partial_list.Lts as lts
 
 form-of-requires : tie.Need-form-of-requires
 form-of-requires c κs = search needs

@@ -1,6 +1,5 @@
-use mathlib.Core.Path.{_≡_, ap, _∙_}
+use mathlib.Core.Path.{ap, _∙_}
 use mathlib.Core.List.{List}
-use Prim.Native.Nat.{ℕ}
 use lib.ListN.{length}
 use borrow.Author.Needs.{needs}
 use Rattle.rules.specs.declared.Row.{Row}
@@ -10,9 +9,6 @@ use Rattle.lists.specs.Blank.{solid}
 use Rattle.lists.proofs.Standing.{between-rows}
 use Rattle.lists.proofs.solid.copy_behind.Statement.{statement}
 use Rattle.lists.proofs.solid.copy_behind.Tie as tie
-use Rattle.lists.proofs.solid.copy_behind.Reads as reads
-use Rattle.lists.proofs.solid.copy_behind.Lts as lts
-use Rattle.lists.proofs.solid.copy_solid.Reads as copy-solid-reads
 
 mul-from : tie.Need-mul-from
 mul-from c = search needs

@@ -1,10 +1,9 @@
-use mathlib.Core.Path.{_≡_, sym, ap, _∙_}
-use Prim.Native.Nat.{ℕ, _+_, _*_, _≤_}
+use mathlib.Core.Path.{sym, ap, _∙_}
+use Prim.Native.Nat.{_+_, _≤_}
 use native.Mathlib.Omega.{arith}
-use lib.ListN.{length}
 use lib.Seq.{length-take-le}
 use borrow.Author.Needs.{needs}
-use Rattle.rules.specs.Answers.{refusalReply, replyOf, after}
+use Rattle.rules.specs.Answers.{replyOf, after}
 use Rattle.rules.specs.Calls.{cares, values, listValues}
 use Rattle.search.proofs.Queries.{few-inputs}
 use Rattle.lists.proofs.Forms.{form-good}
@@ -12,13 +11,6 @@ use Rattle.lists.proofs.Lending.{few-barred, both-room}
 use Rattle.lists.proofs.Wholes.{ready, is-refused, stood, fits-care, fits-value, reply-count, left-care, left-value}
 use Rattle.lists.proofs.whole.from_bars.Statement.{statement}
 use Rattle.lists.proofs.whole.from_bars.Tie as tie
-use Rattle.lists.proofs.whole.from_bars.Reads as reads
-use Rattle.lists.proofs.whole.from_bars.Lts as lts
-use Rattle.lists.proofs.barring.bar_both.Reads as bar-both-reads
-use Rattle.lists.proofs.build.build.Reads as build-reads
-use Rattle.lists.proofs.solid.copy_behind.Reads as copy-behind-reads
-use Rattle.lists.proofs.whole.shorter.Reads as shorter-reads
-use Rattle.sheets.proofs.bar.Reads as bar-reads
 
 bar-requires : tie.Need-bar-requires
 bar-requires c κs =

@@ -1,4 +1,4 @@
-use mathlib.Core.Path.{_≡_, refl, sym, ap, _∙_}
+use mathlib.Core.Path.{refl, sym, ap, _∙_}
 use lib.Dec.{lit≤}
 use borrow.Author.Needs.{needs}
 use Rattle.rules.specs.Answers.{replyOf, after}
@@ -6,10 +6,6 @@ use Rattle.rules.specs.Calls.{cares, values, listValues}
 use Rattle.lists.proofs.Forms.{whole-refused}
 use Rattle.lists.proofs.whole.whole_list.Statement.{statement}
 use Rattle.lists.proofs.whole.whole_list.Tie as tie
-use Rattle.lists.proofs.whole.whole_list.Reads as reads
-use Rattle.lists.proofs.whole.whole_list.Lts as lts
-use Rattle.lists.proofs.formed.form_of.Reads as form-of-reads
-use Rattle.lists.proofs.whole.from_bars.Reads as from-bars-reads
 
 form-of-requires : tie.Need-form-of-requires
 form-of-requires c κs = search needs

@@ -1,8 +1,5 @@
 -- The answer's rows are written as a list, its refusal as a line.
-use mathlib.Core.Path.{_≡_, ap, subst}
-use mathlib.Core.Bool.{true}
 use native.Mathlib.Omega.{arith}
-use Prim.Native.Nat.{_≤_}
 use lib.Dec.{leb}
 use borrow.Author.Tests.{leb-true}
 use Rattle.rules.specs.Words.{maxInputs}

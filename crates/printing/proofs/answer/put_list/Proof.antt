@@ -1,6 +1,6 @@
 -- A list in form is written, since there is room for the longest text.
-use mathlib.Core.Path.{_≡_, ap, _∙_}
-use mathlib.Core.List.{List, _∷_, []}
+use mathlib.Core.Path.{_≡_}
+use mathlib.Core.List.{List}
 use Prim.Native.Nat.{ℕ}
 use native.Mathlib.Omega.{arith}
 use denote.Ref.{now}
@@ -10,7 +10,7 @@ use lib.Seq.{length-take-le}
 use borrow.Author.Tests.{leb-true}
 use Rattle.rules.specs.declared.Row.{Row}
 use Rattle.rules.specs.Words.{maxInputs}
-use Rattle.rules.specs.Answers.{given, after}
+use Rattle.rules.specs.Answers.{given}
 use Rattle.rules.specs.Calls.{rowsIn, write}
 use Rattle.rules.specs.Pla.{textOf}
 use Rattle.rules.proofs.Logic.{and-both}

@@ -1,12 +1,10 @@
 -- A refusal's line: the word, the number, and what follows it. There is room for each, since a line has at most 35 bytes.
-use mathlib.Core.Path.{_≡_}
 use mathlib.Core.List.{List, _++_}
 use native.Mathlib.Omega.{arith}
 use Prim.Native.Nat.{ℕ}
 use denote.Ref.{now}
 use Rattle.rules.specs.declared.Refusal.{Refusal}
 use Rattle.rules.specs.Answers.{refusalReply}
-use Rattle.rules.specs.Dimacs.{ascii}
 use Rattle.rules.specs.Pla.{digits}
 use Rattle.rules.specs.Program.{settingsLine, refusalLine}
 use Rattle.pla.specs.Put.{Room, Puts}

@@ -1,5 +1,5 @@
 -- A refusal other than 6 has nothing but the line's end; 6 has a space, its setting and the line's end.
-use mathlib.Core.Path.{_≡_, sym, _∙_, subst}
+use mathlib.Core.Path.{_≡_, sym, _∙_}
 use mathlib.Core.List.{List, [], _∷_, _++_}
 use Prim.Native.Nat.{ℕ}
 use denote.Ref.{now}
@@ -8,7 +8,6 @@ use Rattle.rules.specs.Answers.{refusalReply}
 use Rattle.rules.specs.Calls.{first}
 use Rattle.rules.specs.Dimacs.{ascii}
 use Rattle.rules.specs.Pla.{settingChars}
-use Rattle.rules.specs.Program.{settingsLine}
 use Rattle.pla.specs.Put.{Room, Puts}
 use Rattle.pla.proofs.Positions.{puts-then, room-first, room-then}
 use Rattle.printing.proofs.Lines.{with-setting, without-setting}

@@ -1,5 +1,5 @@
 -- The bit of variable k + 1 is bit k.
-use mathlib.Core.Path.{_≡_, ap, _∙_}
+use mathlib.Core.Path.{_≡_}
 use native.Mathlib.Omega.{arith}
 use Prim.Native.Nat.{_+_, _-_}
 use borrow.Author.Tests.{ne-eqb}

@@ -1,7 +1,7 @@
 -- `records::cubes::prune_records` meets its contract: a walk of its MIR, by hand. It has calls alone: the run of records is lent again for each of the two
 -- calls that take it, and what is passed besides goes by value.
 -- Assumes nothing.
-use mathlib.Core.Path.{_≡_, refl, sym, _∙_, ap, subst}
+use mathlib.Core.Path.{_≡_, refl, _∙_, ap, subst}
 use Prim.Native.Nat.{ℕ, _<_, _≤_, _^_}
 use mathlib.Core.List.{[], _∷_, List, map}
 use lib.ListN.{length, take}

@@ -1,12 +1,10 @@
 -- The answer is the core's; it marks within the rows that were copied.
-use mathlib.Core.Path.{_≡_, ap, _∙_}
-use mathlib.Core.List.{List}
+use mathlib.Core.Path.{ap, _∙_}
 use Prim.Native.Nat.{ℕ, _≤_}
 use native.Mathlib.Omega.{arith}
 use lib.ListN.{length, take, length-take}
-use Rattle.rules.specs.Calls.{rowsIn, prune}
+use Rattle.rules.specs.Calls.{rowsIn}
 use Rattle.rules.proofs.GivenRows.{rows-most}
-use Rattle.records.specs.Words.{gone}
 use Rattle.records.proofs.Planned.{plan-marks}
 use borrow.Author.Needs.{needs}
 use Rattle.records.proofs.plan.plan_of.Statement.{statement}

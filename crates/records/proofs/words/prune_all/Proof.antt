@@ -1,9 +1,7 @@
 -- Nothing stands before the rows, and no sheet is asked.
-use mathlib.Core.Path.{_≡_, ap, _∙_}
+use mathlib.Core.Path.{ap, _∙_}
 use mathlib.Core.List.{List}
-use Prim.Native.Nat.{ℕ}
 use native.Mathlib.Nat.{zero-add}
-use native.Mathlib.Omega.{arith}
 use Rattle.rules.specs.declared.Row.{Row}
 use Rattle.rules.specs.Answers.{over}
 use Rattle.rules.specs.Calls.{kept, wordsOf}

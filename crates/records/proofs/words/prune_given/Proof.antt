@@ -1,12 +1,11 @@
 -- The rows are laid out, judged in the order 1..n, and marked by their blanks.
-use mathlib.Core.Path.{_≡_, sym, ap, _∙_}
+use mathlib.Core.Path.{ap, _∙_}
 use mathlib.Core.List.{List}
 use Prim.Native.Nat.{ℕ, _≤_}
 use native.Mathlib.Omega.{arith}
 use denote.Ref.{now}
 use lib.ListN.{length, take, length-take}
 use Rattle.rules.specs.declared.Row.{Row}
-use Rattle.rules.specs.Words.{natural}
 use Rattle.rules.specs.Answers.{over}
 use Rattle.rules.specs.Method.{maxRows}
 use Rattle.rules.specs.Calls.{kept, rowsIn}

@@ -1,5 +1,6 @@
 //! Every call that is compared: its group, its amount for the gate, and how to run it.
 
+use crate::both::compare_both;
 use crate::calls::Library;
 use crate::driver::{Call, Case, Tally};
 use crate::host::{HOST_LIST, HOST_PLA};
@@ -29,6 +30,13 @@ fn entry<C: Case + 'static>(group: &'static str, amount: usize, call: Call<C>, t
     Some(Entry { group, name: call.name, amount, run: Box::new(move |count, seed| call.compare(&table, count, seed)) })
 }
 
+/// The list on words beside the list on bytes, if the library has both.
+fn both(library: Library) -> Option<Entry> {
+    let (lists, host) = (library.lists?, library.host?);
+    let run: Run = Box::new(move |count, seed| compare_both(&lists, &host, count, seed));
+    Some(Entry { group: "host", name: "words-and-bytes", amount: 10_000, run })
+}
+
 /// Every call that the library has.
 pub fn entries(library: Library) -> Vec<Entry> {
     let all = [
@@ -40,8 +48,9 @@ pub fn entries(library: Library) -> Vec<Entry> {
         entry("texts", 20_000, TOKEN, library.texts),
         entry("texts", 10_000, WRITE, library.texts),
         entry("texts", 10_000, OUTPUT, library.texts),
-        entry("host", 10_000, HOST_LIST, library.host),
-        entry("host", 10_000, HOST_PLA, library.host),
+        entry("host", 20_000, HOST_LIST, library.host),
+        entry("host", 20_000, HOST_PLA, library.host),
+        both(library),
         entry("records", 5_000, PRUNE, library.records),
     ];
     all.into_iter().flatten().collect()

@@ -78,7 +78,7 @@ impl<C: Case> Call<C> {
     }
 
     /// The tally, if every kind of answer that this call can give was met.
-    fn all_met(&self, tally: Tally) -> Result<Tally, String> {
+    pub fn all_met(&self, tally: Tally) -> Result<Tally, String> {
         let results = self.results.iter().map(|result| result.to_string());
         let refusals = self.refusals.iter().map(|number| format!("refused {number}"));
         let unmet: Vec<String> = results.chain(refusals).filter(|kind| !tally.contains_key(kind)).collect();

@@ -6,6 +6,7 @@
 compile_error!("feature `self` compares the second program with itself; it goes with no group of the static library");
 
 pub mod answers;
+pub mod both;
 pub mod calls;
 pub mod catalogue;
 pub mod driver;

@@ -3,9 +3,10 @@
 mod common;
 
 use common::caught;
+use compare::both::compare_both;
 use compare::calls::{Host, Records};
 use compare::host::{HOST_LIST, HOST_PLA};
-use compare::itself::{HOST, RECORDS};
+use compare::itself::{HOST, LISTS, RECORDS};
 use compare::records::PRUNE;
 
 /// The host's list with one thing wrong.
@@ -66,6 +67,22 @@ fn a_host_refusal_without_its_setting() {
         answer if answer >> 32 == 6 => 6 << 32,
         answer => answer,
     });
+}
+
+#[test]
+fn other_rows_on_bytes_than_on_words() {
+    let wrong = Host {
+        list: |n, order, on, off, care, value| {
+            let answer = (HOST.list)(n, order, on, off, care, value);
+            if (1..256).contains(&answer) {
+                value[0] ^= care[0];
+            }
+            answer
+        },
+        ..HOST
+    };
+    let words = compare_both(&LISTS, &wrong, 3000, 5).expect_err("other rows must differ");
+    assert!(words.contains("on words") && words.contains("on bytes"));
 }
 
 #[test]

@@ -3,4 +3,5 @@ mod given_lists;
 mod pack;
 mod partial;
 mod query;
+mod texts;
 mod whole;

@@ -2,12 +2,16 @@
 ghost use mathlib.Core.Path.{_≡_};
 ghost use Prim.Native.Nat.{_+_, _*_, _<_};
 ghost use Rattle.rules.specs.Words.{one};
-ghost use Rattle.rules.specs.Answers.{refusalReply, queryReply, valueReply, writeReply, listReply, partialReply};
+ghost use Rattle.rules.specs.Answers.{refusalReply, queryReply, valueReply, writeReply, listReply, partialReply, readReply};
 ghost use Rattle.rules.specs.Calls.{first};
-ghost use Rattle.probe.specs.Packed.{packed, packedCounts};
+ghost use Rattle.dimacs.specs.Parts.{tokenIs, stepIs};
+ghost use Rattle.probe.specs.Packed.{packed, packedCounts, packedNumber, packedToken, packedStep, sizeOf, sizeIn};
+use dimacs::Step;
+use dimacs::Token;
 use rules::ListAnswer;
 use rules::PartialAnswer;
 use rules::QueryAnswer;
+use rules::ReadAnswer;
 use rules::Refusal;
 use rules::Setting;
 use rules::ValueAnswer;
@@ -109,5 +113,48 @@ pub fn partial_reply(a: PartialAnswer) -> u64
             + wide(one(complete)) * 4294967296
             + (count % 4294967296) as u64,
         PartialAnswer::Refused(f) => refusal_counts(f),
+    }
+}
+
+pub fn read_reply(a: ReadAnswer) -> u64
+    ensures { λ r. ⌜ r ≡ packedCounts (readReply a) ⌝ }
+{
+    match a {
+        ReadAnswer::Sheet(inputs, count) => 2 * ONE
+            + (count % 1048576) as u64 * 4294967296
+            + wide(inputs) % 4294967296,
+        ReadAnswer::Refused(f) => refusal_counts(f),
+    }
+}
+
+// The kind of a token.
+const KIND: u64 = 2305843009213693952;
+
+fn signed(z: i64) -> u64
+    ensures { λ r. ⌜ r ≡ packedNumber z ⌝ }
+{
+    let low = (z & 4294967295) as u64;
+    if z < 0 { 2 * KIND + low } else { KIND + low }
+}
+
+// A number that fits in 32 bits and a sign.
+fn token_reply(t: Token) -> u64
+    requires { ⌜ sizeOf (tokenIs t) < 4294967296 ⌝ }
+    ensures { λ r. ⌜ r ≡ packedToken (tokenIs t) ⌝ }
+{
+    match t {
+        Token::Number(z) => signed(z),
+        Token::Percent => 3 * KIND,
+        Token::Other => 4 * KIND,
+    }
+}
+
+pub fn step_reply(s: Step) -> u64
+    requires { ⌜ sizeIn (stepIs s) < 4294967296 ⌝ }
+    ensures { λ r. ⌜ r ≡ packedStep (stepIs s) ⌝ }
+{
+    match s {
+        Step::Token(t, place) => token_reply(t) + (place % 536870912) as u64 * 4294967296,
+        Step::NoneLeft => 0,
     }
 }

@@ -51,20 +51,34 @@ fn refused(number: u64, result: &str) -> String {
     }
 }
 
-/// A token step's number: 0 if no token is left, else kind * 2^62 + the next place * 2^32 + a number's bits.
+/// A token step's number: 0 if no token is left, else kind * 2^61 + the next place * 2^32 + the low bits of a number.
 pub fn packed_token(step: Option<(Token, usize)>) -> u64 {
     let Some((token, next)) = step else { return 0 };
     let (kind, bits) = match token {
         Token::Close => (1, 0),
-        Token::Literal(literal) => (1, literal as u32),
-        Token::End => (2, 0),
-        Token::NotInForm => (3, 0),
+        Token::Literal(literal) => (if literal < 0 { 2 } else { 1 }, literal as u32),
+        Token::End => (3, 0),
+        Token::NotInForm => (4, 0),
     };
-    (kind << 62) + ((next as u64) << 32) + u64::from(bits)
+    (kind << 61) + ((next as u64) << 32) + u64::from(bits)
 }
 
 /// A token step's kind.
-pub fn token_kind(answer: u64) -> String {
-    let kinds = if answer == 0 { "none left" } else { ["kind 0", "number", "percent", "other"][(answer >> 62) as usize] };
-    kinds.to_string()
+pub fn token_kind(answer: u64) -> &'static str {
+    let kinds = ["none left", "number", "number below zero", "percent", "other"];
+    kinds.get((answer >> 61) as usize).copied().unwrap_or("no kind")
+}
+
+/// The place behind a token.
+pub fn token_next(answer: u64) -> u64 {
+    answer >> 32 & 0x1fff_ffff
+}
+
+/// The number that a token is, if it is one.
+pub fn token_number(answer: u64) -> Option<i64> {
+    match token_kind(answer) {
+        "number" => Some(first(answer) as i64),
+        "number below zero" => Some(first(answer) as i64 - (1 << 32)),
+        _ => None,
+    }
 }

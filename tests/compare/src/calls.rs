@@ -27,7 +27,7 @@ pub struct Texts {
     pub token: fn(u32, &[u8], usize) -> u64,
     /// n, count, care, value; lent text.
     pub write: fn(u32, usize, &[u32], &[u32], &mut [u8]) -> u64,
-    /// The texts of on.cnf and off.cnf; lent room for what the program prints.
+    /// The texts of on.cnf and off.cnf; lent room for what the program prints. 0 without room for the longest output.
     pub output: fn(&[u8], &[u8], &mut [u8]) -> u64,
 }
 

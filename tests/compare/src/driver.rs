@@ -57,6 +57,18 @@ pub struct Call<C: Case> {
 pub type Tally = BTreeMap<String, usize>;
 
 impl<C: Case> Call<C> {
+    /// A call by its name, the second program's table, its worked cases, how others are drawn, and the answers to meet.
+    pub const fn new(
+        name: &'static str,
+        second: C::Calls,
+        worked: fn(&mut Random) -> Vec<Worked<C>>,
+        draw: fn(&mut Random) -> C,
+        results: &'static [&'static str],
+        refusals: &'static [u32],
+    ) -> Call<C> {
+        Call { name, second, worked, draw, results, refusals }
+    }
+
     /// Compares this many random cases after the worked ones; what was met, or in words what is wrong.
     pub fn compare(&self, library: &C::Calls, count: usize, seed: u64) -> Result<Tally, String> {
         print!("{}: {count} cases, ", self.name);

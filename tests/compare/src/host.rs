@@ -98,14 +98,8 @@ fn draw_list(random: &mut Random) -> HostListCase {
     HostListCase { pair, over, care: Lent::filled(random, care), value: Lent::filled(random, value) }
 }
 
-pub const HOST_LIST: Call<HostListCase> = Call {
-    name: "host-list",
-    second: itself::HOST,
-    worked: worked::host_lists,
-    draw: draw_list,
-    results: &["rows", "no rows"],
-    refusals: &[1, 2, 3, 4, 6, 7, 15],
-};
+pub const HOST_LIST: Call<HostListCase> =
+    Call::new("host-list", itself::HOST, worked::host_lists, draw_list, &["rows", "no rows"], &[1, 2, 3, 4, 6, 7, 15]);
 
 /// What PLA writing is given: a list, and the bytes left over of its care and value words.
 #[derive(Clone)]
@@ -161,5 +155,4 @@ fn draw_pla(random: &mut Random) -> HostPlaCase {
     HostPlaCase { list, over, text: Lent::filled(random, room) }
 }
 
-pub const HOST_PLA: Call<HostPlaCase> =
-    Call { name: "host-pla", second: itself::HOST, worked: worked::host_texts, draw: draw_pla, results: &["text"], refusals: &[1, 8, 15] };
+pub const HOST_PLA: Call<HostPlaCase> = Call::new("host-pla", itself::HOST, worked::host_texts, draw_pla, &["text"], &[1, 8, 15]);

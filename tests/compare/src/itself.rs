@@ -3,7 +3,7 @@
 use second::calls::{partial_list, prune, query, value_at, whole_list, Cube};
 use second::dimacs::{read_dimacs, token_step};
 use second::host::{host_list, host_pla};
-use second::pla::write_pla;
+use second::pla::{write_pla, MAX_PLA};
 use second::program::output;
 
 use crate::answers::{packed, packed_token};
@@ -25,6 +25,9 @@ pub const TEXTS: Texts = Texts {
     token: |v, text, at| packed_token(token_step(v, text, at)),
     write: |n, count, care, value, text| packed(write_pla(n, count, care, value, text), |length| vec![length as u64]),
     output: |on, off, out| {
+        if out.len() < MAX_PLA {
+            return 0;
+        }
         let printed = output(on, off);
         out[..printed.len()].copy_from_slice(&printed);
         printed.len() as u64

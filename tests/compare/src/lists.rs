@@ -107,23 +107,17 @@ fn draw(random: &mut Random, k: Option<usize>) -> ListCase {
     ListCase { reworded: twin_of(random, &pair), pair, k, care, value }
 }
 
-pub const WHOLE: Call<ListCase> = Call {
-    name: "whole",
-    second: itself::LISTS,
-    worked: worked::whole_lists,
-    draw: |random| draw(random, None),
-    results: &["rows", "no rows"],
-    refusals: &[1, 2, 3, 4, 6, 7, 15],
-};
+pub const WHOLE: Call<ListCase> =
+    Call::new("whole", itself::LISTS, worked::whole_lists, |random| draw(random, None), &["rows", "no rows"], &[1, 2, 3, 4, 6, 7, 15]);
 
-pub const PARTIAL: Call<ListCase> = Call {
-    name: "partial",
-    second: itself::LISTS,
-    worked: worked::partial_lists,
-    draw: |random| {
+pub const PARTIAL: Call<ListCase> = Call::new(
+    "partial",
+    itself::LISTS,
+    worked::partial_lists,
+    |random| {
         let k = rows_asked(random);
         draw(random, Some(k))
     },
-    results: &["complete", "not complete"],
-    refusals: &[1, 2, 3, 4, 5, 6, 15],
-};
+    &["complete", "not complete"],
+    &[1, 2, 3, 4, 5, 6, 15],
+);

@@ -1,6 +1,7 @@
 //! What the program prints for two texts.
 
 use second::dimacs::header;
+use second::pla::MAX_PLA;
 use second::random::Random;
 use second::random_texts::{any_text, mutated, text};
 
@@ -41,12 +42,13 @@ impl Case for OutputCase {
     }
 
     fn kind(&self, outcome: &Outcome) -> String {
-        let length = (outcome.answer as usize).min(ROOM);
+        let length = (outcome.answer as usize).min(self.out.room());
         let printed: String = outcome.cells("out")[..length].iter().map(|&cell| cell as u8 as char).collect();
         let mut words = printed.split_ascii_whitespace();
         match (words.next(), words.next()) {
             (Some("refused"), Some(number)) => format!("refused {number}"),
             (Some(".i"), _) => "text".to_string(),
+            (None, _) => "no room".to_string(),
             _ => "neither text nor refusal".to_string(),
         }
     }
@@ -62,7 +64,7 @@ impl Case for OutputCase {
     }
 
     fn shown(&self) -> String {
-        format!("on.cnf \"{}\"\noff.cnf \"{}\"", self.on.escape_ascii(), self.off.escape_ascii())
+        format!("on.cnf \"{}\"\noff.cnf \"{}\"\nroom {}", self.on.escape_ascii(), self.off.escape_ascii(), self.out.room())
     }
 }
 
@@ -88,21 +90,16 @@ fn drawn_texts(random: &mut Random) -> (Vec<u8>, Vec<u8>) {
     (on, off)
 }
 
-/// Texts that the second program is quick on.
+/// Texts that the second program is quick on, now and then with no room or with just enough.
 fn draw(random: &mut Random) -> OutputCase {
     loop {
         let (on, off) = drawn_texts(random);
         if is_quick(&on, &off) {
-            return OutputCase { on, off, out: Lent::filled(random, ROOM) };
+            let room = if random.chance(5) { random.pick(&[0, MAX_PLA - 1, MAX_PLA]) } else { ROOM };
+            return OutputCase { on, off, out: Lent::filled(random, room) };
         }
     }
 }
 
-pub const OUTPUT: Call<OutputCase> = Call {
-    name: "output",
-    second: itself::TEXTS,
-    worked: worked::outputs,
-    draw,
-    results: &["text"],
-    refusals: &[6, 7, 10, 11, 12, 13, 14, 15],
-};
+pub const OUTPUT: Call<OutputCase> =
+    Call::new("output", itself::TEXTS, worked::outputs, draw, &["text", "no room"], &[6, 7, 10, 11, 12, 13, 14, 15]);

@@ -104,5 +104,4 @@ fn draw(random: &mut Random) -> QueryCase {
     case
 }
 
-pub const QUERY: Call<QueryCase> =
-    Call { name: "query", second: itself::QUERY, worked: worked::queries, draw, results: &["setting", "none"], refusals: &[1, 2, 3, 9] };
+pub const QUERY: Call<QueryCase> = Call::new("query", itself::QUERY, worked::queries, draw, &["setting", "none"], &[1, 2, 3, 9]);

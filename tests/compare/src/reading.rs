@@ -66,11 +66,5 @@ fn draw(random: &mut Random) -> ReadCase {
     ReadCase { text, numbers: Lent::filled(random, room) }
 }
 
-pub const READ: Call<ReadCase> = Call {
-    name: "read",
-    second: itself::TEXTS,
-    worked: worked::readings,
-    draw,
-    results: &["numbers", "no numbers"],
-    refusals: &[10, 11, 12, 13, 15],
-};
+pub const READ: Call<ReadCase> =
+    Call::new("read", itself::TEXTS, worked::readings, draw, &["numbers", "no numbers"], &[10, 11, 12, 13, 15]);

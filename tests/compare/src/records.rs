@@ -99,11 +99,4 @@ fn draw(random: &mut Random) -> PruneCase {
     PruneCase::of(random, &list)
 }
 
-pub const PRUNE: Call<PruneCase> = Call {
-    name: "prune",
-    second: itself::RECORDS,
-    worked: worked::records,
-    draw,
-    results: &["all kept", "some dropped"],
-    refusals: &[1, 8],
-};
+pub const PRUNE: Call<PruneCase> = Call::new("prune", itself::RECORDS, worked::records, draw, &["all kept", "some dropped"], &[1, 8]);

@@ -3,7 +3,7 @@
 use second::random::{inputs, Random};
 use second::random_texts::any_text;
 
-use crate::answers::token_kind;
+use crate::answers::{token_kind, token_next, token_number};
 use crate::calls::Texts;
 use crate::driver::{Call, Case};
 use crate::itself;
@@ -27,15 +27,15 @@ impl Case for TokenCase {
     }
 
     fn kind(&self, outcome: &Outcome) -> String {
-        token_kind(outcome.answer)
+        token_kind(outcome.answer).to_string()
     }
 
     fn said(&self, outcome: &Outcome) -> String {
-        let next = outcome.answer >> 32 & 0x3fff_ffff;
-        match token_kind(outcome.answer).as_str() {
-            "number" => format!("number {}, then {next}", outcome.answer as u32 as i32),
-            "none left" => "none left".to_string(),
-            kind => format!("{kind}, then {next}"),
+        let kind = token_kind(outcome.answer);
+        match token_number(outcome.answer) {
+            Some(number) => format!("number {number}, then {}", token_next(outcome.answer)),
+            None if kind == "none left" => kind.to_string(),
+            None => format!("{kind}, then {}", token_next(outcome.answer)),
         }
     }
 
@@ -45,7 +45,7 @@ impl Case for TokenCase {
         let texts = fewer(&self.text).map(|text| TokenCase { text, ..self.clone() });
         let places = [self.at / 2, self.at.saturating_sub(1)].into_iter().filter(|&at| at < self.at);
         let places = places.map(|at| TokenCase { at, ..self.clone() });
-        let lower = (1..self.v).map(|v| TokenCase { v, ..self.clone() });
+        let lower = (0..self.v.min(25)).map(|v| TokenCase { v, ..self.clone() });
         Box::new(later.chain(texts).chain(places).chain(lower))
     }
 
@@ -92,14 +92,17 @@ fn drawn_token(random: &mut Random, v: u32) -> Vec<u8> {
         0 => b"0".to_vec(),
         1 => b"%".to_vec(),
         2 | 3 => random.pick(&odd).to_vec(),
-        4 => format!("{}{}", random.pick(&["", "-"]), random.pick(&[v, v + 1, 10 * v, 9, 10, 25])).into_bytes(),
-        _ => format!("{}{}", random.pick(&["", "-"]), inputs(random, v)).into_bytes(),
+        4 => {
+            let v = u64::from(v);
+            format!("{}{}", random.pick(&["", "-"]), random.pick(&[v, v + 1, 10 * v, 9, 10, 25])).into_bytes()
+        }
+        _ => format!("{}{}", random.pick(&["", "-"]), inputs(random, v.clamp(1, 24))).into_bytes(),
     }
 }
 
-/// A few tokens with bytes that part them, or a whole text; and a place in it or just past it.
+/// A few tokens with bytes that part them, or a whole text; and a place in it or just past it. V may be any number.
 fn draw(random: &mut Random) -> TokenCase {
-    let v = inputs(random, 24);
+    let v = if random.chance(10) { random.pick(&[0, 25, 99, 1 << 31, u32::MAX]) } else { inputs(random, 24) };
     let mut text = Vec::new();
     if random.chance(25) {
         text = any_text(random, 24);
@@ -119,11 +122,5 @@ fn draw(random: &mut Random) -> TokenCase {
     TokenCase { v, text, at }
 }
 
-pub const TOKEN: Call<TokenCase> = Call {
-    name: "token",
-    second: itself::TEXTS,
-    worked: worked::tokens,
-    draw,
-    results: &["none left", "number", "percent", "other"],
-    refusals: &[],
-};
+pub const TOKEN: Call<TokenCase> =
+    Call::new("token", itself::TEXTS, worked::tokens, draw, &["none left", "number", "number below zero", "percent", "other"], &[]);

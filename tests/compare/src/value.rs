@@ -62,5 +62,4 @@ fn draw(random: &mut Random) -> ValueCase {
     ValueCase { list, setting: at }
 }
 
-pub const VALUE: Call<ValueCase> =
-    Call { name: "value", second: itself::LISTS, worked: worked::values, draw, results: &["value 0", "value 1"], refusals: &[1, 8, 9] };
+pub const VALUE: Call<ValueCase> = Call::new("value", itself::LISTS, worked::values, draw, &["value 0", "value 1"], &[1, 8, 9]);

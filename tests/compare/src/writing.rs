@@ -72,5 +72,4 @@ fn draw(random: &mut Random) -> WriteCase {
     WriteCase { list, text: Lent::filled(random, room) }
 }
 
-pub const WRITE: Call<WriteCase> =
-    Call { name: "write", second: itself::TEXTS, worked: worked::writings, draw, results: &["text"], refusals: &[1, 8, 15] };
+pub const WRITE: Call<WriteCase> = Call::new("write", itself::TEXTS, worked::writings, draw, &["text"], &[1, 8, 15]);

@@ -3,7 +3,7 @@
 mod common;
 
 use common::caught;
-use compare::answers::{first, pack, second_value};
+use compare::answers::{first, pack, second_value, token_kind, token_next};
 use compare::calls::Texts;
 use compare::itself::TEXTS;
 use compare::output::OUTPUT;
@@ -88,7 +88,7 @@ fn a_token_with_leading_zeros() {
 #[test]
 fn a_token_whose_place_is_one_on() {
     token(|v, text, at| match (TEXTS.token)(v, text, at) {
-        answer if answer >> 62 == 2 => answer + (1 << 32),
+        answer if token_kind(answer) == "percent" => answer + (1 << 32),
         answer => answer,
     });
 }
@@ -97,10 +97,10 @@ fn a_token_whose_place_is_one_on() {
 fn a_token_that_wraps_around() {
     token(|v, text, at| {
         let answer = (TEXTS.token)(v, text, at);
-        let end = (answer >> 32 & 0x3fff_ffff) as usize;
+        let end = token_next(answer) as usize;
         let start = end.saturating_sub(10);
         match text.get(start..end) {
-            Some(b"4294967297") if at <= start => (1 << 62) + ((end as u64) << 32) + 1,
+            Some(b"4294967297") if at <= start => (1 << 61) + ((end as u64) << 32) + 1,
             _ => answer,
         }
     });
@@ -185,6 +185,25 @@ fn an_output_that_takes_unequal_headers() {
         let length = (TEXTS.output)(on, off, out);
         if out.starts_with(b"refused 14") {
             out[9] = b'3';
+        }
+        length
+    });
+}
+
+#[test]
+fn a_token_whose_sign_is_lost() {
+    token(|v, text, at| match (TEXTS.token)(v, text, at) {
+        answer if token_kind(answer) == "number below zero" => answer - (1 << 61),
+        answer => answer,
+    });
+}
+
+#[test]
+fn an_output_that_is_written_without_room() {
+    output(|on, off, out| {
+        let length = (TEXTS.output)(on, off, out);
+        if length == 0 && !out.is_empty() {
+            out[0] = b'.';
         }
         length
     });

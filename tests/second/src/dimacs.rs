@@ -13,7 +13,7 @@ pub enum Token {
     /// `0`, which closes a clause.
     Close,
     /// A literal in form.
-    Literal(i32),
+    Literal(i64),
     /// `%`, which ends the text.
     End,
     /// Any other bytes.
@@ -84,10 +84,7 @@ fn token(v: u32, bytes: &[u8]) -> Token {
         None => (1, bytes),
     };
     match decimal(digits) {
-        Some(number) if (1..=v).contains(&number) => match i32::try_from(sign * i64::from(number)) {
-            Ok(literal) => Token::Literal(literal),
-            Err(_) => Token::NotInForm,
-        },
+        Some(number) if (1..=v).contains(&number) => Token::Literal(sign * i64::from(number)),
         _ => Token::NotInForm,
     }
 }
@@ -107,7 +104,7 @@ fn body_numbers(v: u32, text: &[u8], body: usize) -> Answer<Vec<i32>> {
         place = next;
         match token {
             Token::Close => numbers.push(0),
-            Token::Literal(literal) => numbers.push(literal),
+            Token::Literal(literal) => numbers.push(literal as i32),
             Token::End => break,
             Token::NotInForm => require(12, false)?,
         }

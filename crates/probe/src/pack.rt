@@ -2,11 +2,12 @@
 ghost use mathlib.Core.Path.{_≡_};
 ghost use Prim.Native.Nat.{_+_, _*_, _<_};
 ghost use Rattle.rules.specs.Words.{one};
-ghost use Rattle.rules.specs.Answers.{refusalReply, queryReply, valueReply, writeReply, listReply, partialReply};
+ghost use Rattle.rules.specs.Answers.{refusalReply, queryReply, valueReply, writeReply, listReply, partialReply, pruneReply};
 ghost use Rattle.rules.specs.Calls.{first};
 ghost use Rattle.probe.specs.Packed.{packed, packedCounts};
 use rules::ListAnswer;
 use rules::PartialAnswer;
+use rules::PruneAnswer;
 use rules::QueryAnswer;
 use rules::Refusal;
 use rules::Setting;
@@ -98,6 +99,15 @@ pub fn list_reply(a: ListAnswer) -> u64
     match a {
         ListAnswer::Rows(count) => ONE + (count % 4294967296) as u64,
         ListAnswer::Refused(f) => refusal_counts(f),
+    }
+}
+
+pub fn prune_reply(a: PruneAnswer) -> u64
+    ensures { λ r. ⌜ r ≡ packedCounts (pruneReply a) ⌝ }
+{
+    match a {
+        PruneAnswer::Kept(count) => ONE + (count % 4294967296) as u64,
+        PruneAnswer::Refused(f) => refusal_counts(f),
     }
 }
 

@@ -210,22 +210,18 @@ mod host {
 
 #[cfg(feature = "records")]
 mod records {
+    /// A word of each record.
+    type Words = [u32; 256];
+
     extern "C" {
-        fn probe_prune(
-            n: u32,
-            count: usize,
-            care: *mut u32,
-            care_len: usize,
-            value: *mut u32,
-            value_len: usize,
-            dropped: *mut u32,
-            dropped_len: usize,
-        ) -> u64;
+        fn probe_prune(n: u32, count: usize, care: &mut Words, value: &mut Words, dropped: &mut Words) -> u64;
     }
 
     pub fn prune(n: u32, count: usize, care: &mut [u32], value: &mut [u32], dropped: &mut [u32]) -> u64 {
-        let (care_len, value_len, dropped_len) = (care.len(), value.len(), dropped.len());
-        let (care, value, dropped) = (care.as_mut_ptr(), value.as_mut_ptr(), dropped.as_mut_ptr());
-        unsafe { probe_prune(n, count, care, care_len, value, value_len, dropped, dropped_len) }
+        unsafe { probe_prune(n, count, words(care), words(value), words(dropped)) }
+    }
+
+    fn words(run: &mut [u32]) -> &mut Words {
+        run.try_into().expect("256 records are lent")
     }
 }

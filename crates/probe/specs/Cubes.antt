@@ -28,7 +28,7 @@ valuesOf records = map (λ c. c .value) records
 abbrev pub marksOf : List Cube → List ℕ
 marksOf records = map (λ c. one (c .dropped)) records
 
--- What is left of a run of marks before and after pruning: 1 for each that is set, and for each row that goes.
+-- Marks as 0 and 1: by the words lent, and by which rows stay.
 abbrev pub setMarks : List ℕ → List ℕ
 setMarks marks = map (λ m. one (isSet m)) marks
 

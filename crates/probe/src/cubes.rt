@@ -11,6 +11,7 @@ use crate::pack::prune_reply;
 use records::Cube;
 use records::pruned_array;
 
+// A mark is set unless it is 0.
 fn cube(care: u32, value: u32, mark: u32) -> Cube
     ensures { λ r. ⌜ r ≡ cubeOf care value mark ⌝ }
 {
@@ -40,6 +41,7 @@ fn mark(dropped: bool) -> u32
     if dropped { 1 } else { 0 }
 }
 
+// Behind a reference an array's length is not known: it is asked.
 fn put_back(
     records: [Cube; 256],
     care: &mut [u32; 256],
@@ -61,7 +63,7 @@ fn put_back(
     }
 }
 
-// The records are built, pruned and written back whole: care and value come out as they were, and so does each mark that pruning leaves, as 0 or 1.
+// The records are built, pruned and written back whole; every mark comes back as 0 or 1.
 #[no_mangle]
 pub extern "C" fn probe_prune(
     n: u32,

@@ -1,2 +1,3 @@
 -- What the comparisons are answered.
+pub mod Cubes
 pub mod Packed

@@ -2,7 +2,7 @@
 ghost use mathlib.Core.Path.{_≡_};
 ghost use Prim.Native.Nat.{_+_, _*_, _<_};
 ghost use Rattle.rules.specs.Words.{one};
-ghost use Rattle.rules.specs.Answers.{refusalReply, queryReply, valueReply, writeReply, listReply, partialReply, readReply};
+ghost use Rattle.rules.specs.Answers.{refusalReply, queryReply, valueReply, writeReply, listReply, partialReply, pruneReply, readReply};
 ghost use Rattle.rules.specs.Calls.{first};
 ghost use Rattle.dimacs.specs.Parts.{tokenIs, stepIs};
 ghost use Rattle.probe.specs.Packed.{packed, packedCounts, packedNumber, packedToken, packedStep, sizeOf, sizeIn};
@@ -10,6 +10,7 @@ use dimacs::Step;
 use dimacs::Token;
 use rules::ListAnswer;
 use rules::PartialAnswer;
+use rules::PruneAnswer;
 use rules::QueryAnswer;
 use rules::ReadAnswer;
 use rules::Refusal;
@@ -102,6 +103,15 @@ pub fn list_reply(a: ListAnswer) -> u64
     match a {
         ListAnswer::Rows(count) => ONE + (count % 4294967296) as u64,
         ListAnswer::Refused(f) => refusal_counts(f),
+    }
+}
+
+pub fn prune_reply(a: PruneAnswer) -> u64
+    ensures { λ r. ⌜ r ≡ packedCounts (pruneReply a) ⌝ }
+{
+    match a {
+        PruneAnswer::Kept(count) => ONE + (count % 4294967296) as u64,
+        PruneAnswer::Refused(f) => refusal_counts(f),
     }
 }
 

@@ -43,7 +43,7 @@ pub struct Host {
 /// Pruning where the records stand.
 #[derive(Clone, Copy)]
 pub struct Records {
-    /// n, count; lent care, value and dropped words, of equal length.
+    /// n, count; lent care, value and dropped words of 256 records.
     pub prune: fn(u32, usize, &mut [u32], &mut [u32], &mut [u32]) -> u64,
 }
 

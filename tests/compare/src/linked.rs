@@ -88,7 +88,18 @@ mod host {
 
 #[cfg(feature = "records")]
 mod records {
-    linked! {
-        fn prune = probe_prune(n: u32, count: usize, care: &mut [u32], value: &mut [u32], dropped: &mut [u32]);
+    /// A word of each record.
+    type Words = [u32; 256];
+
+    extern "C" {
+        fn probe_prune(n: u32, count: usize, care: &mut Words, value: &mut Words, dropped: &mut Words) -> u64;
+    }
+
+    pub fn prune(n: u32, count: usize, care: &mut [u32], value: &mut [u32], dropped: &mut [u32]) -> u64 {
+        unsafe { probe_prune(n, count, words(care), words(value), words(dropped)) }
+    }
+
+    fn words(run: &mut [u32]) -> &mut Words {
+        run.try_into().expect("256 records are lent")
     }
 }

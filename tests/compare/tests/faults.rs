@@ -108,13 +108,13 @@ fn pruning_records_last_to_first() {
         PRUNE,
         Records {
             prune: |n, count, care, value, dropped| {
-                if let Ok(mut rows) = given_list(n, care, value, count) {
-                    rows.reverse();
-                    let gone = drops(n, &rows);
-                    (0..count).for_each(|i| dropped[i] = u32::from(gone[count - 1 - i]));
-                    return pack(0, &[gone.iter().filter(|&&gone| !gone).count() as u64]);
-                }
-                (RECORDS.prune)(n, count, care, value, dropped)
+                let given = given_list(n, care, value, count);
+                let answer = (RECORDS.prune)(n, count, care, value, dropped);
+                let Ok(mut rows) = given else { return answer };
+                rows.reverse();
+                let gone = drops(n, &rows);
+                (0..count).for_each(|i| dropped[i] = u32::from(gone[count - 1 - i]));
+                pack(0, &[gone.iter().filter(|&&gone| !gone).count() as u64])
             },
         },
     );

@@ -8,12 +8,13 @@ use compare::itself::{LIBRARY, LISTS, QUERY as SECOND};
 use compare::lent::Lent;
 use compare::lists::{ListCase, PARTIAL, WHOLE};
 use compare::query::{QueryCase, QUERY};
+use compare::records::PRUNE;
 use compare::shrink::{fewer, parts, sheet_without, smaller_sheet, word_without};
 use compare::worked::queries;
 use second::random::Random;
 use second::random_sheets::Pair;
 use second::sheets::{table, well_formed};
-use second::words::{inputs_in_form, order_in_form};
+use second::words::{inputs_in_form, order_in_form, Row};
 
 #[test]
 fn the_second_program_passes() {
@@ -107,6 +108,38 @@ fn lists_meet_every_room_and_k() {
     println!("{exact} exact, {short} short, {decided} decided, {undecided} undecided, {twins} twins, {turned} turned");
     assert!([exact, short, decided, undecided, twins, turned].iter().all(|&met| met > 200));
     assert!([0, 1, 2, 255, 256, 257].iter().all(|&k| ks[k] > 0) && ks[12..255].iter().sum::<usize>() > 100);
+}
+
+#[test]
+fn records_meet_every_count_and_row() {
+    let mut random = Random::seeded(22);
+    let (mut twice, mut inside, mut bad_rows, mut bad_inputs, mut marked, mut odd) = (0, 0, 0, 0, 0, 0);
+    let mut counts = [0; 258];
+    let mut refused_counts = 0;
+    for _ in 0..5000 {
+        let case = (PRUNE.draw)(&mut random);
+        let refusal = case.call(&PRUNE.second).answer >> 56;
+        let count = case.count.min(257);
+        let rows: Vec<Row> = (0..count.min(256)).map(|i| Row { care: case.care.held()[i], value: case.value.held()[i] }).collect();
+        let within = |a: &Row, b: &Row| a.care & b.care == b.care && a.value & b.care == b.value;
+        let pairs = || (1..rows.len()).flat_map(|i| (0..i).map(move |j| (j, i)));
+        counts[count] += usize::from(refusal != 1);
+        refused_counts += usize::from(case.count > 256 && refusal == 8);
+        bad_rows += usize::from(case.count <= 256 && refusal == 8);
+        bad_inputs += usize::from(refusal == 1);
+        twice += usize::from(refusal == 0 && pairs().any(|(j, i)| rows[j] == rows[i]));
+        inside += usize::from(
+            refusal == 0 && pairs().any(|(j, i)| rows[j] != rows[i] && (within(&rows[j], &rows[i]) || within(&rows[i], &rows[j]))),
+        );
+        marked += usize::from(case.dropped.held()[..count.min(256)].iter().any(|&mark| mark != 0));
+        odd += usize::from(case.dropped.held().iter().any(|&mark| mark > 1));
+    }
+    println!(
+        "{twice} with equal rows, {inside} with rows within others, {bad_rows} bad rows, {bad_inputs} bad n, {refused_counts} bad counts"
+    );
+    println!("{marked} marked before, {odd} by other words; counts 0: {}, 256: {}", counts[0], counts[256]);
+    assert!([twice, inside, bad_rows, bad_inputs, refused_counts, marked, odd].iter().all(|&met| met > 200));
+    assert!([0, 1, 2, 255, 256, 257].iter().all(|&count| counts[count] > 50) && counts[13..255].iter().sum::<usize>() > 100);
 }
 
 #[test]

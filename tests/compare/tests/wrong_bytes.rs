@@ -109,7 +109,7 @@ fn marks_that_stay() {
     prune(|n, count, care, value, dropped| {
         let before = dropped.to_vec();
         let answer = (RECORDS.prune)(n, count, care, value, dropped);
-        dropped.iter_mut().zip(before).for_each(|(mark, was)| *mark |= was);
+        dropped.iter_mut().zip(before).for_each(|(mark, was)| *mark |= u32::from(was != 0));
         answer
     });
 }
@@ -145,4 +145,22 @@ fn rows_cleared_where_they_are_dropped() {
         }
         answer
     });
+}
+
+#[test]
+fn marks_by_their_lowest_bit() {
+    prune(|n, count, care, value, dropped| {
+        dropped.iter_mut().for_each(|mark| *mark &= 1);
+        (RECORDS.prune)(n, count, care, value, dropped)
+    });
+}
+
+#[test]
+fn counts_by_their_low_half() {
+    prune(|n, count, care, value, dropped| (RECORDS.prune)(n, count as u32 as usize, care, value, dropped));
+}
+
+#[test]
+fn counts_past_256() {
+    prune(|n, count, care, value, dropped| (RECORDS.prune)(n, if count == 257 { 256 } else { count }, care, value, dropped));
 }

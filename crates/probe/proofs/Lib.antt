@@ -1,0 +1,2 @@
+-- Laws behind the calls on records.
+mod Runs

@@ -14,7 +14,7 @@ use Rattle.rules.specs.Search.{smallest}
 use Rattle.rules.specs.Method.{next, generated, pruned, all}
 use Rattle.rules.specs.Answers.{Reply, Verdict, given, refused, after}
 use Rattle.rules.specs.Pla.{textOf, readAt}
-use Rattle.rules.specs.Calls.{Run, notWellFormed, collision, whole, partial, query, prune, value, write, read}
+use Rattle.rules.specs.Calls.{Run, Partial, notWellFormed, collision, whole, partial, query, prune, value, write, read}
 use Rattle.rules.proofs.Rows.{dashes-row}
 use Rattle.rules.proofs.Orders.{IsOrder}
 use Rattle.rules.proofs.Smallest.{smallest-passes, smallest-held, smallest-below, smallest-none, smallest-least}
@@ -25,7 +25,7 @@ use Rattle.rules.proofs.Pruning.{AllAlone, pruned-holds}
 use Rattle.rules.proofs.Same.{Same, same-whole, same-partial}
 use Rattle.rules.proofs.PlaText.{text-reads, text-inputs}
 use Rattle.rules.proofs.Judged.{Lowest}
-use Rattle.rules.proofs.Refusals.{refused-lowest, wholeChecks, whole-judges, partialChecks, partial-judges, queryChecks, query-judges, pruneChecks, prune-judges, valueChecks, value-judges, writeChecks, write-judges, readChecks, read-judges}
+use Rattle.rules.proofs.Refusals.{PartialAccepted, partial-accepted, refused-lowest, wholeChecks, whole-judges, partialChecks, partial-judges, queryChecks, query-judges, pruneChecks, prune-judges, valueChecks, value-judges, writeChecks, write-judges, readChecks, read-judges}
 use Rattle.rules.proofs.Listed.{Right, accepted-inputs, accepted-right, decided-value}
 
 -- DEMAND 1. Every sheet, order, text and length gets an answer or one of the numbered refusals.
@@ -136,6 +136,11 @@ module _ (n : ℕ) (order : List ℕ) (o : IsOrder n order) (on off : ℕ → Bo
 
   pub pruning-loses-none : (rows : List Row) → All (λ r. isRow n r ≡ true) rows → (s : ℕ) → s < 2 ^ n → inSome (pruned all order rows) s ≡ inSome rows s
   pruning-loses-none rows w s l = pruned-holds order all n o rows w s l refl
+
+-- Asked for k rows: the first k generated rows, in form and held to the room, and whether generation has at most k.
+pub first-k-given : (n : ℕ) (order : Run ℕ) (on off : Run ℤ) (k room : ℕ) {part : Partial} → partial n order on off k room ≡ given part
+    → PartialAccepted n order on off k room part
+first-k-given = partial-accepted
 
 -- Two well-formed pairs with equal inputs, order, room, on settings and off settings give equal rows or the same refusal, however worded.
 module _ (n : ℕ) (order : Run ℕ) (on on′ off off′ : Run ℤ)

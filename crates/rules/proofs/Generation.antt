@@ -67,9 +67,6 @@ module _ (order : List ℕ) (on off : ℕ → Bool) where
       go none e = refl
       go (some s) e = clash e refl
 
-  pub none-complete : (rows : List Row) → next order on rows ≡ none → complete order on rows ≡ true
-  none-complete rows e = ap (λ (r : Option ℕ). not (found r)) e
-
   -- The first j generated rows are the beginning of the first k.
   pub begins : (j d : ℕ) → (more : List Row) × (rowsAt (d + j) ≡ rowsAt j ++ more)
   begins j zero = ([], ap rowsAt (zero-add j) ∙ sym (append-nil (rowsAt j)))

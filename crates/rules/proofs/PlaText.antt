@@ -160,11 +160,6 @@ text-reads n rows l h s b =
     ∙ some-dot count body s (digits-plain (length rows))
     ∙ some-rows n rows s l h
 
--- equal texts mean equal values
-pub text-same-value : (n : ℕ) (xs ys : List Row) → 1 ≤ n → areRows n xs ≡ true → areRows n ys ≡ true → textOf n xs ≡ textOf n ys
-    → (s : ℕ) → s < 2 ^ n → inSome xs s ≡ inSome ys s
-text-same-value n xs ys l p q e s b = sym (text-reads n xs l p s b) ∙ ap (λ t. readAt t s) e ∙ text-reads n ys l q s b
-
 -- a text's first line names its inputs, so equal texts have equal inputs
 text-first : (n : ℕ) (rows : List Row) → (rest : List (List ℕ)) × (lines (textOf n rows) ≡ (ascii ".i " ++ digits n) ∷ rest)
 unfolding textOf plain

@@ -4,15 +4,14 @@ use mathlib.Core.Path.{_≡_, refl, sym, ap, _∙_}
 use mathlib.Core.Bool.{Bool, true, false, not, cond, _||_}
 use mathlib.Core.List.{List, [], _∷_}
 use Prim.Native.Nat.{ℕ, _-_, _≤_}
-use native.Mathlib.Omega.{arith}
 use lib.Dec.{eqb, leb}
 use lib.IntN.{ℤ}
 use borrow.Author.Tests.{eqb-true, leb-true}
 use Rattle.rules.specs.declared.Row.{Row}
-use Rattle.rules.specs.Words.{isOne, withOne, fixes, full, atZero, atOne}
+use Rattle.rules.specs.Words.{isOne, withOne, fixes, atZero, atOne}
 use Rattle.rules.specs.Sheets.{variable, positive, isTrue, closes, everyClause, satisfies, inReach}
 use Rattle.rules.proofs.Logic.{test, clash, fails, or-cases, or-left, or-right, and-both, either}
-use Rattle.rules.proofs.Bits.{bit, bit-set, bit-ones}
+use Rattle.rules.proofs.Bits.{bit, bit-set}
 use Rattle.sheets.specs.Open.{isOpen}
 use Rattle.sheets.proofs.Signs.{variable-of}
 
@@ -86,6 +85,3 @@ module _ (n : ℕ) (r : Row) (all : (v : ℕ) → 1 ≤ v → v ≤ n → fixes 
   pub open-satisfied : (zs : List ℤ) → inReach n zs ≡ true → everyClause (isOpen r) false zs ≡ satisfies zs (r .value)
   unfolding satisfies
   open-satisfied zs h = fixed-clauses zs false h
-
-pub full-open : (n s : ℕ) (zs : List ℤ) → inReach n zs ≡ true → everyClause (isOpen (full n s)) false zs ≡ satisfies zs s
-full-open n s = open-satisfied n (full n s) (λ v l h. bit-ones n (v - 1) (omega arith))

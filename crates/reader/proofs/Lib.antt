@@ -1,0 +1,2 @@
+-- Laws behind the walks.
+pub mod Holding

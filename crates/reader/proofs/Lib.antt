@@ -1,2 +1,3 @@
 -- Laws behind the walks.
 pub mod Holding
+pub mod Loan

@@ -41,3 +41,16 @@ impl<'a> Reader<'a> {
         step
     }
 }
+
+// The token that is given after k others from a position on, or that none is left: on a plain text, for callers that keep no reader.
+pub fn token_after(v: u32, text: &[u8], position: usize, k: usize) -> Step
+    ensures { λ r. ⌜ stepIs r ≡ step v (now (text .entry)) (movedOn v (now (text .entry)) position k) ⌝ }
+{
+    let mut reader = Reader::at(text, position);
+    let mut i: usize = 0;
+    while i < k {
+        reader.next(v);
+        i = i + 1;
+    }
+    reader.next(v)
+}

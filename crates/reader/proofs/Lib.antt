@@ -1,3 +1,4 @@
 -- Laws behind the walks.
 pub mod Holding
 pub mod Loan
+pub mod Stepping

@@ -17,7 +17,7 @@ fn moved_by(step: Step, position: usize) -> usize
     ensures { λ r. ⌜ r ≡ movedBy (stepIs step) position ⌝ }
 {
     match step {
-        Step::Token(token, place) => place,
+        Step::Token(_, place) => place,
         Step::NoneLeft => position,
     }
 }

@@ -2,3 +2,4 @@
 pub mod Holding
 pub mod Loan
 pub mod Stepping
+pub mod Sole

@@ -43,6 +43,10 @@ found v d r = stepIs r ≡ rules.step v (now (d .text)) (d .position)
 abbrev pub stepped : ℕ → Reader → Reader
 stepped v d = readerAt (d .text) (moved v (now (d .text)) (d .position))
 
+-- what `next` promises: the step, and the reader as it is left
+abbrev pub Steps : ℕ → Reader → Step → Reader → Type 0
+Steps v d r d′ = found v d r × ((d′ .text ≡ d .text) × (d′ .position ≡ moved v (now (d .text)) (d .position)))
+
 module _ {M : Type 1} (𝓤 : URA M) (H : Heap 𝓤) (A : Atoms 𝓤) (W : Given 𝓤 H A) (at-mem : Memory → SProp 𝓤) (run : Routine → Fun 𝓤) where
   abbrev pub Next : Contract 𝓤
   Next = tripleOf 𝓤 H A nx.signature (nx.spec 𝓤 H A at-mem run)
@@ -83,10 +87,6 @@ module _ {M : Type 1} (𝓤 : URA M) (H : Heap 𝓤) (A : Atoms 𝓤) (W : Given
         use3 W (later (some (λ (x : ℕ × GName). Tokens (x .0) (‵ (Lent 𝓤 H A W κ q l (x .0) (x .1) d)) ⊛ ‵ (Kept 𝓤 H A W κ q l (x .0) (x .1))))) (goes 𝓤 H A W κ q l d) $ await ! tt $ pick ! (λ x. split ! $
         use1 W (raw (Next .pre (asked x d))) (asks (x .0) (x .1) d) $ at-once ! $ show ! (λ (y : ℕ × GName). mean 𝓤 H A (Away d y)) x $ frame ! $ done !)
 
-    -- what `next` promises: the step, and the reader as it is left
-    abbrev Steps : Reader → Step → Reader → Type 0
-    Steps d r d′ = found v d r × ((d′ .text ≡ d .text) × (d′ .position ≡ moved v (now (d .text)) (d .position)))
-
     abbrev pub Back : Reader → Val → Step → Item 𝓤
     Back d u r = given (found v d r) (‵ (S.the-row .own r (u ∷ [])) ⊛ Here (stepped v d))
 
@@ -95,8 +95,8 @@ module _ {M : Type 1} (𝓤 : URA M) (H : Heap 𝓤) (A : Atoms 𝓤) (W : Given
         qed W (raw (Next .post (asked (ν, γ) d) u) ∷ ‵ (Kept 𝓤 H A W κ q l ν γ) ∷ []) ∵ updating ! $
         use1 W (later (some (λ (r : Step). (Tokens ν (‵ ftrue) ⊛ ‵ (S.the-row .own r (u ∷ []))) ⊛ raw (ensured 𝓤 H A nx.ended (nx.clauses 𝓤 H A at-mem run) (ν ∷ κ, (κ, tt)) (lent γ d, (v, tt)) tt r)))) (id⊢ 𝓤 _) $
         await ! tt $ pick ! (λ r. split ! $ move ! (1 ∷ []) $
-        use1 W (some (λ (ws : Reader × (Unit {0} × Unit {0})). ‵ (lasts nx.ended (ν ∷ κ, (κ, tt)) (lent γ d, (v, tt)) ws) ⊛ raw (fact 𝓤 (Steps d r (ws .0))))) (id⊢ 𝓤 _) $ pick ! (λ ws. split ! $ move ! (1 ∷ []) $
-        heard ! (Steps d r (ws .0)) (λ e. fsplit ! $ rewrite ! 0 (λ (h : Reader). ‵ (fres γ (R .coded .code h))) (λ i. readerAt (e .1 .0 i) (e .1 .1 i)) refl $
+        use1 W (some (λ (ws : Reader × (Unit {0} × Unit {0})). ‵ (lasts nx.ended (ν ∷ κ, (κ, tt)) (lent γ d, (v, tt)) ws) ⊛ raw (fact 𝓤 (Steps v d r (ws .0))))) (id⊢ 𝓤 _) $ pick ! (λ ws. split ! $ move ! (1 ∷ []) $
+        heard ! (Steps v d r (ws .0)) (λ e. fsplit ! $ rewrite ! 0 (λ (h : Reader). ‵ (fres γ (R .coded .code h))) (λ i. readerAt (e .1 .0 i) (e .1 .1 i)) refl $
         move ! (2 ∷ []) $ split ! $ split3 ! $ keep ! (1 ∷ 4 ∷ 0 ∷ 3 ∷ 6 ∷ []) $
         -- [the text's token; the last reader; the token of both; the step; what is kept]
         join ! $ move ! (1 ∷ 0 ∷ []) $ join ! $ move ! (0 ∷ 2 ∷ []) $

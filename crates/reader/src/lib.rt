@@ -30,7 +30,7 @@ impl<'a> Reader<'a> {
     }
 
     // One step over the inputs 1..v: the next token, and on behind it; or that none is left.
-    pub fn next<'s>(&'s mut self, v: u32) -> Step
+    pub fn next(&mut self, v: u32) -> Step
         ensures { λ r. ⌜ (stepIs r ≡ step v (now (now (self .entry) .text)) (now (self .entry) .position))
             × ((now (self .exit) .text ≡ now (self .entry) .text) × (now (self .exit) .position ≡ moved v (now (now (self .entry) .text)) (now (self .entry) .position))) ⌝ }
     {

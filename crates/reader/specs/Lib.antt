@@ -1,0 +1,2 @@
+-- Where a reader stands after its steps.
+pub mod Moves

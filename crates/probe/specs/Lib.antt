@@ -1,2 +1,3 @@
--- What the comparisons are answered.
+-- What the comparisons and the measurements are answered.
 pub mod Packed
+pub mod Phase

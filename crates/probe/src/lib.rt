@@ -2,5 +2,6 @@
 mod given_lists;
 mod pack;
 mod partial;
+mod phase;
 mod query;
 mod whole;

@@ -1,0 +1,2 @@
+-- Laws of the search phase by itself.
+pub mod Phases

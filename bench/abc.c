@@ -23,22 +23,24 @@ static FILE *open_file(const char *name, const char *mode)
     return file;
 }
 
-/* The on sheet as one node that is 0 in every barred row. */
+/* The on sheet as one node that is 0 in every barred row, its inputs in the order of the pair. */
 static void write_pair(const Pair *p, const char *name)
 {
     static Row rows[MAX_CLAUSES];
     FILE *file = open_file(name, "w");
     size_t count = bar(p->on.numbers, p->on.count, rows);
     fprintf(file, ".model pair\n.inputs");
-    for (uint32_t i = 1; i <= p->n; i++)
-        fprintf(file, " x%u", i);
+    for (uint32_t i = 0; i < p->n; i++)
+        fprintf(file, " x%u", p->order[i]);
     fprintf(file, "\n.outputs f\n.names");
-    for (uint32_t i = 1; i <= p->n; i++)
-        fprintf(file, " x%u", i);
+    for (uint32_t i = 0; i < p->n; i++)
+        fprintf(file, " x%u", p->order[i]);
     fprintf(file, " f\n");
     for (size_t k = 0; k < count; k++) {
-        for (uint32_t i = 0; i < p->n; i++)
-            fputc(!(rows[k].care >> i & 1) ? '-' : rows[k].value >> i & 1 ? '1' : '0', file);
+        for (uint32_t i = 0; i < p->n; i++) {
+            uint32_t bit = p->order[i] - 1;
+            fputc(!(rows[k].care >> bit & 1) ? '-' : rows[k].value >> bit & 1 ? '1' : '0', file);
+        }
         fprintf(file, " 0\n");
     }
     fprintf(file, ".end\n");

@@ -4,6 +4,7 @@
 
 #include <stdio.h>
 #include <stdlib.h>
+#include <string.h>
 #include <time.h>
 
 enum { ROUNDS = 9, ABC_ROUNDS = 3, LINES = 64, WORDS = 4 * MAX_CLAUSES };
@@ -13,6 +14,7 @@ typedef uint64_t Call(const Pair *pair);
 
 static uint32_t care[MAX_ROWS], value[MAX_ROWS];
 static uint8_t bytes[4 * MAX_NUMBERS]; /* the on sheet of the search phase */
+static Row rows_c[WORDS / 2];          /* and what it leaves */
 
 /* The refusal, the count and a sum over the rows. */
 static uint64_t digest(uint32_t refusal, size_t count)
@@ -32,17 +34,17 @@ static uint64_t whole_c(const Pair *p)
 
 static uint64_t phase_rows_c(const Pair *p)
 {
-    static Row rows[WORDS / 2];
-    return plain_phase_rows(p->n, p->order, p->on.numbers, p->on.count, rows, WORDS / 2);
+    return plain_phase_rows(p->n, p->order, p->on.numbers, p->on.count, rows_c, WORDS / 2);
 }
 
 static uint64_t phase_bytes_c(const Pair *p)
 {
-    static Row rows[WORDS / 2];
-    return plain_phase_bytes(p->n, p->order, bytes, 4 * p->on.count, rows, WORDS / 2);
+    return plain_phase_bytes(p->n, p->order, bytes, 4 * p->on.count, rows_c, WORDS / 2);
 }
 
 #ifdef HAVE_PROBE
+static uint32_t words_ours[WORDS];
+
 static uint64_t whole_ours(const Pair *p)
 {
     uint64_t answer = probe_whole(p->n, p->order, p->n, p->on.numbers, p->on.count, p->off.numbers, p->off.count,
@@ -53,17 +55,26 @@ static uint64_t whole_ours(const Pair *p)
 
 static uint64_t phase_rows_ours(const Pair *p)
 {
-    static uint32_t rows[WORDS];
-    return bench_phase_rows(p->n, p->order, p->n, p->on.numbers, p->on.count, rows, WORDS);
+    return bench_phase_rows(p->n, p->order, p->n, p->on.numbers, p->on.count, words_ours, WORDS);
 }
 
 static uint64_t phase_bytes_ours(const Pair *p)
 {
-    static uint32_t rows[WORDS];
-    return bench_phase_bytes(p->n, p->order, p->n, bytes, 4 * p->on.count, rows, WORDS);
+    return bench_phase_bytes(p->n, p->order, p->n, bytes, 4 * p->on.count, words_ours, WORDS);
+}
+
+/* After a phase of both. */
+static bool same_rows(void)
+{
+    return memcmp(words_ours, rows_c, sizeof rows_c) == 0;
 }
 #else
 static Call *const whole_ours = NULL, *const phase_rows_ours = NULL, *const phase_bytes_ours = NULL;
+
+static bool same_rows(void)
+{
+    return true;
+}
 #endif
 
 /* What is measured on one line of the table. */
@@ -110,7 +121,7 @@ static Line *add(const Family *family, uint32_t size, Call *ours, Call *c)
 /* Both sides must agree. A sample is one call, or calls for about four milliseconds. */
 static void prepare(Line *line)
 {
-    if (line->ours && line->ours(&line->pair) != line->c(&line->pair)) {
+    if (line->ours && (line->ours(&line->pair) != line->c(&line->pair) || !same_rows())) {
         fprintf(stderr, "%s %u: the two programs differ\n", line->family->name, line->pair.n);
         exit(1);
     }
@@ -128,7 +139,7 @@ static void measure(Line *line)
 
 static bool for_abc(const Line *line)
 {
-    return line->c == whole_c && line->family->against_abc && !line->whole.refusal;
+    return line->c == whole_c && line->family->decided && !line->whole.refusal;
 }
 
 static void measure_abc(Line *line)
@@ -153,9 +164,13 @@ static void print_growth(double above, double here)
         printf(" %7s", "-");
 }
 
-static void print_abc(const Abc *abc)
+static void print_abc(const Abc *abc, double ours)
 {
     printf(" %13.3f %5zu%s", 1e3 * abc_seconds(abc), abc->rows, abc->inverted ? "*" : " ");
+    if (ours > 0)
+        printf(" %7.2f", abc_seconds(abc) / ours);
+    else
+        printf(" %7s", "-");
 }
 
 static void print_line(const Line *line, const Line *above, bool abc)
@@ -169,8 +184,8 @@ static void print_line(const Line *line, const Line *above, bool abc)
     print_growth(above ? above->best_ours : 0, line->best_ours);
     print_growth(above ? above->best_c : 0, line->best_c);
     if (abc && for_abc(line)) {
-        print_abc(&line->satclp);
-        print_abc(&line->collapse);
+        print_abc(&line->satclp, line->best_ours);
+        print_abc(&line->collapse, line->best_ours);
     }
     printf("\n");
 }
@@ -190,7 +205,7 @@ static void print_head(bool ours, bool abc)
     printf("\n%-18s %2s %5s %5s %6s %5s %10s %10s %7s %7s %7s", "family", "n", "on", "off", "gener.", "list", "ours", "plain C",
            "ratio", "growth", "growth");
     if (abc)
-        printf(" %13s %5s  %13s %5s", "satclp -c", "rows", "collapse; sop", "rows");
+        printf(" %13s %5s  %7s %13s %5s  %7s", "satclp -c", "rows", "/ ours", "collapse; sop", "rows", "/ ours");
     printf("\n");
 }
 

@@ -4,18 +4,20 @@
 #include <stdlib.h>
 
 const Family families[FAMILIES] = {
-    {"odd parity", parity, {7, 8, 9, 10}, true, true},
-    {"threshold", threshold, {6, 8, 9, 10}, true, false},
-    {"multiplexer", multiplexer, {2, 3}, true, false},
-    {"comparator", comparator, {3, 4, 5, 6, 7, 8}, true, true},
-    {"carry", carry, {3, 4, 5, 6, 7, 8}, true, true},
-    {"random, decided", random_decided, {10, 12, 14, 16}, true, true},
-    {"random, undecided", random_undecided, {10, 12, 14, 16}, false, false},
-    {"random, guarded", random_guarded, {12, 16, 20, 24}, false, false},
-    {"level codes", level_codes, {7, 10, 16, 24}, false, false},
-    {"level switches", level_switches, {7, 10, 16, 24}, false, false},
-    {"late parity", late, {12, 14, 16, 18, 20}, true, false},
-    {"late multiplexer", late_multiplexer, {2, 3}, true, false},
+    {"odd parity", parity, {7, 8, 9, 10}, true},
+    {"threshold", threshold, {6, 8, 9, 10}, true},
+    {"multiplexer", multiplexer, {2, 3}, true},
+    {"comparator", comparator, {3, 4, 5, 6, 7, 8}, true},
+    {"carry", carry, {3, 4, 5, 6, 7, 8}, true},
+    {"carry, low first", carry_low, {3, 4, 5, 6, 7, 8}, true},
+    {"carry, a then b", carry_apart, {3, 4, 5, 6, 7, 8}, true},
+    {"random, decided", random_decided, {10, 12, 14, 16}, true},
+    {"random, undecided", random_undecided, {10, 12, 14, 16}, false},
+    {"random, guarded", random_guarded, {12, 16, 20, 24}, false},
+    {"level codes", level_codes, {7, 10, 16, 24}, false},
+    {"level switches", level_switches, {7, 10, 16, 24}, false},
+    {"late parity", late, {12, 14, 16, 18, 20}, true},
+    {"late multiplexer", late_multiplexer, {2, 3}, true},
 };
 
 bool satisfied(const Sheet *sheet, uint32_t setting)
@@ -160,10 +162,16 @@ static void ladder(Sheet *sheet, uint32_t bits, const int32_t *left, const int32
         }
 }
 
-/* On where some bit has both literals and each higher bit at least one. */
-static void ladders(Pair *pair, uint32_t bits, int32_t *left, int32_t *right)
+/* On where some bit of a and b has both literals and each higher bit at least one. a and b are the variables of their highest bits,
+   and step leads to the next lower; b's literals have the sign. */
+static void ladders(Pair *pair, uint32_t bits, int32_t a, int32_t b, int32_t step, int32_t sign)
 {
+    int32_t left[MAX_INPUTS] = {0}, right[MAX_INPUTS] = {0};
     start(pair, 2 * bits);
+    for (uint32_t i = 0; i < bits; i++) {
+        left[i] = a + (int32_t)i * step;
+        right[i] = sign * (b + (int32_t)i * step);
+    }
     ladder(&pair->off, bits, left, right, false);
     for (uint32_t i = 0; i < bits; i++) {
         left[i] = -left[i];
@@ -174,22 +182,24 @@ static void ladders(Pair *pair, uint32_t bits, int32_t *left, int32_t *right)
 
 void comparator(Pair *pair, uint32_t bits)
 {
-    int32_t left[MAX_INPUTS], right[MAX_INPUTS];
-    for (uint32_t i = 0; i < bits; i++) {
-        left[i] = (int32_t)(2 * i + 1);
-        right[i] = -(int32_t)(2 * i + 2);
-    }
-    ladders(pair, bits, left, right);
+    ladders(pair, bits, 1, 2, 2, -1);
+}
+
+void carry_low(Pair *pair, uint32_t bits)
+{
+    ladders(pair, bits, 2 * (int32_t)bits - 1, 2 * (int32_t)bits, -2, 1);
 }
 
 void carry(Pair *pair, uint32_t bits)
 {
-    int32_t left[MAX_INPUTS], right[MAX_INPUTS];
-    for (uint32_t i = 0; i < bits; i++) {
-        left[i] = (int32_t)(bits - i);
-        right[i] = (int32_t)(2 * bits - i);
-    }
-    ladders(pair, bits, left, right);
+    carry_low(pair, bits);
+    for (uint32_t i = 0; i < pair->n; i++)
+        pair->order[i] = pair->n - i;
+}
+
+void carry_apart(Pair *pair, uint32_t bits)
+{
+    ladders(pair, bits, (int32_t)bits, 2 * (int32_t)bits, -1, 1);
 }
 
 /* n - 1 switches, lowest bit first, and Set last. Five eighths of the levels are in use; the one in their middle is on. */

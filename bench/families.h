@@ -1,4 +1,5 @@
-/* Pairs of clause sheets to measure on. Within a pair no setting satisfies both sheets; the order is 1..n. */
+/* Pairs of clause sheets to measure on. Within a pair no setting satisfies both sheets; the order is 1..n but
+   where it says otherwise. */
 #ifndef FAMILIES_H
 #define FAMILIES_H
 
@@ -38,10 +39,9 @@ typedef struct {
     void (*make)(Pair *pair, uint32_t size);
     uint32_t sizes[6]; /* up to the first 0 */
     bool decided;      /* every setting is on or off */
-    bool against_abc;
 } Family;
 
-enum { FAMILIES = 12 };
+enum { FAMILIES = 14 };
 extern const Family families[FAMILIES];
 
 /* Each takes its size: inputs, or select lines, or bits of a number. */
@@ -49,7 +49,9 @@ void parity(Pair *pair, uint32_t n);            /* on: an odd number of ones */
 void threshold(Pair *pair, uint32_t n);         /* on: at least half of the inputs are 1 */
 void multiplexer(Pair *pair, uint32_t selects); /* select lines first, lowest first; then the data lines */
 void comparator(Pair *pair, uint32_t bits);     /* on: a > b; a and b interleaved, highest bits first */
-void carry(Pair *pair, uint32_t bits);          /* on: a + b carries out; all of a, then all of b, lowest bits first */
+void carry(Pair *pair, uint32_t bits);          /* on: a + b carries out; a and b by turns, lowest bits first; order n..1 */
+void carry_low(Pair *pair, uint32_t bits);      /* the same; order 1..n */
+void carry_apart(Pair *pair, uint32_t bits);    /* the same; all of a, then all of b, lowest bits first; order 1..n */
 void random_decided(Pair *pair, uint32_t n);    /* on: random clauses; off: every other setting */
 void random_undecided(Pair *pair, uint32_t n);  /* the same, with random clauses for the off sheet too */
 void random_guarded(Pair *pair, uint32_t n);    /* random clauses each; four variables have odd parity in on, even in off */

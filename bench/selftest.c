@@ -187,17 +187,27 @@ static int mean_threshold(uint32_t size, uint32_t n, uint32_t s) { (void)size; r
 static int mean_late(uint32_t size, uint32_t n, uint32_t s) { (void)size; return ones(s >> (n - 3)) % 2; }
 static int mean_mux(uint32_t size, uint32_t n, uint32_t s) { (void)n; return s >> (size + low(s, size)) & 1; }
 static int mean_late_mux(uint32_t size, uint32_t n, uint32_t s) { return s >> (s >> (n - size)) & 1; }
-static int mean_carry(uint32_t size, uint32_t n, uint32_t s) { (void)n; return (low(s, size) + (s >> size)) >> size; }
+static int mean_apart(uint32_t size, uint32_t n, uint32_t s) { (void)n; return (low(s, size) + (s >> size)) >> size; }
+
+/* The number in every other bit from the lowest on, whose highest or lowest bit comes first. */
+static uint32_t every_other(uint32_t word, uint32_t bits, bool high_first)
+{
+    uint32_t number = 0;
+    for (uint32_t i = 0; i < bits; i++)
+        number |= (word >> 2 * i & 1) << (high_first ? bits - 1 - i : i);
+    return number;
+}
 
 static int mean_comparator(uint32_t size, uint32_t n, uint32_t s)
 {
-    uint32_t a = 0, b = 0;
     (void)n;
-    for (uint32_t i = 0; i < size; i++) {
-        a = 2 * a + (s >> 2 * i & 1);
-        b = 2 * b + (s >> (2 * i + 1) & 1);
-    }
-    return a > b;
+    return every_other(s, size, true) > every_other(s >> 1, size, true);
+}
+
+static int mean_carry(uint32_t size, uint32_t n, uint32_t s)
+{
+    (void)n;
+    return (every_other(s, size, false) + every_other(s >> 1, size, false)) >> size;
 }
 
 static int mean_codes(uint32_t size, uint32_t n, uint32_t s)
@@ -214,8 +224,8 @@ static int mean_switches(uint32_t size, uint32_t n, uint32_t s)
 }
 
 /* In the order of families[]; a family of random clauses has no meaning beside its clauses. */
-static Meaning *const meanings[FAMILIES] = {mean_parity, mean_threshold, mean_mux, mean_comparator, mean_carry, NULL, NULL, NULL,
-                                            mean_codes, mean_switches, mean_late, mean_late_mux};
+static Meaning *const meanings[FAMILIES] = {mean_parity, mean_threshold, mean_mux, mean_comparator, mean_carry, mean_carry, mean_apart,
+                                            NULL, NULL, NULL, mean_codes, mean_switches, mean_late, mean_late_mux};
 
 static void check_family(Pair *p, const Family *family, Meaning *means)
 {

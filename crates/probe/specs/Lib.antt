@@ -1,3 +1,4 @@
--- What the comparisons are answered.
+-- What the comparisons and the measurements are answered.
 pub mod Cubes
 pub mod Packed
+pub mod Phase

@@ -3,6 +3,7 @@ mod cubes;
 mod given_lists;
 mod pack;
 mod partial;
+mod phase;
 mod query;
 mod texts;
 mod whole;

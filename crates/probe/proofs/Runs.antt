@@ -1,13 +1,13 @@
 -- Records in three runs of words: what loops over them build, and what pruning leaves.
 use mathlib.Core.Path.{_≡_, refl, sym, ap, ap₂, _∙_}
-use mathlib.Core.Bool.{Bool, true, false, not}
+use mathlib.Core.Bool.{Bool, true, not}
 use mathlib.Core.List.{List, [], _∷_, _++_, map}
 use Prim.Native.Nat.{ℕ, zero, suc, _+_, _≤_, _<_}
 use native.Mathlib.Nat.{le-of-suc-le-suc, not-suc-le-zero}
 use native.Mathlib.Numerals.{add-one}
 use native.Mathlib.Omega.{arith}
 use lib.ListN.{length, getD, take, set, length-map, length-set, List·getD-map}
-use lib.Seq.{take-all, take-suc, take-suc-set, length-take-le}
+use lib.Seq.{take-all, take-suc, take-suc-set}
 use Rattle.rules.specs.declared.Row.{Row}
 use Rattle.rules.specs.Words.{isInputs, natural}
 use Rattle.rules.specs.Method.{marks, all}

@@ -4,10 +4,8 @@ use mathlib.Core.Bool.{Bool, true, false, _||_}
 use mathlib.Core.List.{List, [], _∷_}
 use Prim.Native.Nat.{ℕ, suc, _+_, _*_, _/_, _≤_, _<_}
 use native.Mathlib.Omega.{arith}
-use lib.Bits.{bitAnd}
 use lib.ListN.{length, getD, drop, length-drop}
 use lib.Seq.{drop-cons}
-use borrow.Author.Tests.{eq-eqb, ne-eqb}
 use Rattle.rules.specs.declared.Row.{Row}
 use Rattle.sheets.specs.Barred.{rowsOf}
 use Rattle.search.specs.Question.{covers, coversSome}
@@ -33,25 +31,23 @@ rows-end ws k h = few (drop (2 * k) ws) (omega (arith, length-drop (2 * k) ws))
     few (c ∷ []) l = refl
     few (c ∷ v ∷ xs) l = absurd (omega arith)
 
--- the loop that asks whether some kept row holds all of r, at the k-th row
-module _ (r : Row) (ws : List ℕ) (k : ℕ) (whole : Bool) (inv : coversSome r (rowsOf (drop (2 * k) ws)) ≡ whole) where
-  more : k < length ws / 2 → (covers r (rowAt ws k) || coversSome r (rowsOf (drop (2 * (k + 1)) ws))) ≡ whole
+join : (a b c : Bool) → ((a || b) || c) ≡ (a || (b || c))
+join true b c = refl
+join false b c = refl
+
+alone : (a : Bool) → a ≡ (a || false)
+alone true = refl
+alone false = refl
+
+-- the loop that asks whether some kept row holds all of r, at the k-th row: whether one before it does
+module _ (r : Row) (ws : List ℕ) (k : ℕ) (met whole : Bool) (inv : (met || coversSome r (rowsOf (drop (2 * k) ws))) ≡ whole) where
+  pub looked : k < length ws / 2 → ((met || covers r (rowAt ws k)) || coversSome r (rowsOf (drop (2 * (k + 1)) ws))) ≡ whole
   unfolding coversSome
-  more h = sym (ap (coversSome r) (rows-more ws k h)) ∙ inv
+  looked h =
+      join met (covers r (rowAt ws k)) (coversSome r (rowsOf (drop (2 * (k + 1)) ws)))
+      ∙ ap (λ (rows : List Row). met || coversSome r rows) (sym (rows-more ws k h))
+      ∙ inv
 
-  pub hit : k < length ws / 2 → bitAnd (getD ws (2 * k) 0) (r .care) ≡ getD ws (2 * k) 0
-      → bitAnd (r .value) (getD ws (2 * k) 0) ≡ getD ws (2 * k + 1) 0 → true ≡ whole
-  hit h p q = rw (eq-eqb _ _ p, eq-eqb _ _ q) at (more h)
-
-  pub miss-care : k < length ws / 2 → (bitAnd (getD ws (2 * k) 0) (r .care) ≡ getD ws (2 * k) 0 → ⊥)
-      → coversSome r (rowsOf (drop (2 * (k + 1)) ws)) ≡ whole
-  miss-care h p = rw (ne-eqb _ _ p) at (more h)
-
-  pub miss-value : k < length ws / 2 → bitAnd (getD ws (2 * k) 0) (r .care) ≡ getD ws (2 * k) 0
-      → (bitAnd (r .value) (getD ws (2 * k) 0) ≡ getD ws (2 * k + 1) 0 → ⊥)
-      → coversSome r (rowsOf (drop (2 * (k + 1)) ws)) ≡ whole
-  miss-value h p q = rw (eq-eqb _ _ p, ne-eqb _ _ q) at (more h)
-
-  pub missed : length ws / 2 ≤ k → false ≡ whole
+  pub all-looked : length ws / 2 ≤ k → met ≡ whole
   unfolding coversSome
-  missed h = sym (ap (coversSome r) (rows-end ws k h)) ∙ inv
+  all-looked h = alone met ∙ ap (λ (rows : List Row). met || coversSome r rows) (sym (rows-end ws k h)) ∙ inv

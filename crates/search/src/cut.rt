@@ -9,26 +9,24 @@ ghost use Rattle.search.specs.Question.{coversSome, live};
 use rules::Row;
 use sheets::open_sheet;
 
-// Some kept row holds every setting of the row. Rows are kept as words: care, value, care, value, ..
+// Some kept row holds every setting of the row. Rows are kept as words: care, value, care, value, .. All are looked at: a loop without
+// an early end is compiled to look at several at once.
 pub fn inside(rows: &[u32], row: Row) -> bool
     ensures { λ r. ⌜ r ≡ coversSome row (rowsOf (now (rows .entry))) ⌝ }
 {
     let care = row.care;
     let value = row.value;
     let count = rows.len() / 2;
+    let mut met = false;
     let mut k = 0;
     while k < count {
         let i = 2 * k;
         let c = rows[i];
         let v = rows[i + 1];
-        if c & care == c {
-            if value & c == v {
-                return true;
-            }
-        }
+        met = met | ((c & care == c) & (value & c == v));
         k += 1;
     }
-    false
+    met
 }
 
 // No clause of either sheet is lost under the row, and no kept row holds all of it.

@@ -1,7 +1,6 @@
 use mathlib.Core.Path.{_≡_, sym, ap, _∙_}
 use mathlib.Core.Bool.{Bool, true, false}
-use Prim.Native.Nat.{ℕ, _%_, _≤_}
-use native.Mathlib.Nat.{mod-eq-of-lt}
+use Prim.Native.Nat.{_≤_}
 use native.Mathlib.Omega.{arith}
 use borrow.Author.Needs.{needs}
 use Rattle.rules.specs.declared.PartialAnswer.{PartialAnswer}
@@ -10,11 +9,6 @@ use Rattle.rules.specs.Answers.{partialReply}
 use Rattle.probe.specs.Packed.{packedCounts}
 use Rattle.probe.proofs.pack.partial_reply.Statement.{statement}
 use Rattle.probe.proofs.pack.partial_reply.Tie as tie
-use Rattle.probe.proofs.pack.partial_reply.Reads as reads
-use Rattle.probe.proofs.pack.partial_reply.Lts as lts
-use Rattle.probe.proofs.pack.one.Reads as one-reads
-use Rattle.probe.proofs.pack.refusal_counts.Reads as refusal-counts-reads
-use Rattle.probe.proofs.pack.wide.Reads as wide-reads
 
 -- what the answer is told to be
 told : {a b : PartialAnswer} → a ≡ b → packedCounts (partialReply a) ≡ packedCounts (partialReply b)

@@ -6,10 +6,6 @@ use Rattle.rules.specs.Answers.{queryReply}
 use Rattle.probe.specs.Packed.{packed}
 use Rattle.probe.proofs.pack.query_reply.Statement.{statement}
 use Rattle.probe.proofs.pack.query_reply.Tie as tie
-use Rattle.probe.proofs.pack.query_reply.Reads as reads
-use Rattle.probe.proofs.pack.query_reply.Lts as lts
-use Rattle.probe.proofs.pack.refusal.Reads as refusal-reads
-use Rattle.probe.proofs.pack.wide.Reads as wide-reads
 
 -- what the answer is told to be
 told : {a b : QueryAnswer} → a ≡ b → packed (queryReply a) ≡ packed (queryReply b)

@@ -6,9 +6,6 @@ use Rattle.rules.specs.Answers.{refusalReply}
 use Rattle.probe.specs.Packed.{packed}
 use Rattle.probe.proofs.pack.refusal.Statement.{statement}
 use Rattle.probe.proofs.pack.refusal.Tie as tie
-use Rattle.probe.proofs.pack.refusal.Reads as reads
-use Rattle.probe.proofs.pack.refusal.Lts as lts
-use Rattle.probe.proofs.pack.wide.Reads as wide-reads
 
 -- what the refusal is told to be
 told : {f g : Refusal} → f ≡ g → packed (refusalReply f) ≡ packed (refusalReply g)

@@ -1,5 +1,5 @@
-use mathlib.Core.Path.{_≡_, refl, sym, ap, _∙_}
-use Prim.Native.Nat.{ℕ, _%_, _<_}
+use mathlib.Core.Path.{_≡_, refl, _∙_}
+use Prim.Native.Nat.{_<_}
 use native.Mathlib.Nat.{mod-eq-of-lt}
 use native.Mathlib.Omega.{arith}
 use borrow.Author.Needs.{needs}
@@ -9,10 +9,6 @@ use Rattle.rules.specs.Calls.{first}
 use Rattle.probe.specs.Packed.{second, packed, packedCounts}
 use Rattle.probe.proofs.pack.refusal_counts.Statement.{statement}
 use Rattle.probe.proofs.pack.refusal_counts.Tie as tie
-use Rattle.probe.proofs.pack.refusal_counts.Reads as reads
-use Rattle.probe.proofs.pack.refusal_counts.Lts as lts
-use Rattle.probe.proofs.pack.refusal.Reads as refusal-reads
-use Rattle.rules.proofs.Refusal.payload.Reads as payload-reads
 
 -- a refusal has one value at the most
 no-second : (f : Refusal) → second (refusalReply f .values) ≡ 0

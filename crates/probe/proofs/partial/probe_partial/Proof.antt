@@ -3,10 +3,6 @@ use borrow.Author.Needs.{needs}
 use Rattle.probe.specs.Packed.{packedCounts}
 use Rattle.probe.proofs.partial.probe_partial.Statement.{statement}
 use Rattle.probe.proofs.partial.probe_partial.Tie as tie
-use Rattle.probe.proofs.partial.probe_partial.Reads as reads
-use Rattle.probe.proofs.partial.probe_partial.Lts as lts
-use Rattle.lists.proofs.partial_list.Reads as partial-list-reads
-use Rattle.probe.proofs.pack.partial_reply.Reads as partial-reply-reads
 
 partial-list-requires : tie.Need-partial-list-requires
 partial-list-requires c κs = search needs

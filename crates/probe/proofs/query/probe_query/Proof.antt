@@ -3,10 +3,6 @@ use borrow.Author.Needs.{needs}
 use Rattle.probe.specs.Packed.{packed}
 use Rattle.probe.proofs.query.probe_query.Statement.{statement}
 use Rattle.probe.proofs.query.probe_query.Tie as tie
-use Rattle.probe.proofs.query.probe_query.Reads as reads
-use Rattle.probe.proofs.query.probe_query.Lts as lts
-use Rattle.probe.proofs.pack.query_reply.Reads as query-reply-reads
-use Rattle.search.proofs.query.Reads as query-reads
 
 query-requires : tie.Need-query-requires
 query-requires c κs = search needs

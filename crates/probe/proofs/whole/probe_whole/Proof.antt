@@ -3,10 +3,6 @@ use borrow.Author.Needs.{needs}
 use Rattle.probe.specs.Packed.{packedCounts}
 use Rattle.probe.proofs.whole.probe_whole.Statement.{statement}
 use Rattle.probe.proofs.whole.probe_whole.Tie as tie
-use Rattle.probe.proofs.whole.probe_whole.Reads as reads
-use Rattle.probe.proofs.whole.probe_whole.Lts as lts
-use Rattle.lists.proofs.whole_list.Reads as whole-list-reads
-use Rattle.probe.proofs.pack.list_reply.Reads as list-reply-reads
 
 whole-list-requires : tie.Need-whole-list-requires
 whole-list-requires c κs = search needs

@@ -1,22 +1,22 @@
 use mathlib.Core.Path.{_≡_, refl}
+use mathlib.Core.Bool.{_||_}
 use Prim.Native.Nat.{_-_, _*_}
 use lib.ListN.{drop}
 use borrow.Author.Needs.{needs}
 use Rattle.rules.specs.declared.Row.{Row}
-use Rattle.rules.proofs.Logic.{either}
 use Rattle.sheets.specs.Barred.{rowsOf}
 use Rattle.search.specs.Question.{coversSome}
-use Rattle.search.proofs.Rows.{hit, miss-care, miss-value, missed}
+use Rattle.search.proofs.Rows.{looked, all-looked}
 use Rattle.search.proofs.cut.inside.Statement.{statement}
 use Rattle.search.proofs.cut.inside.Tie as tie
 
 abbrev Inv-loop : tie.InvT-loop
-Inv-loop rows care value count k₀ k =
+Inv-loop rows care value count met₀ k₀ met k =
     let r : Row = record { care = care; value = value } in
-    coversSome r (rowsOf (drop (2 * k) rows)) ≡ coversSome r (rowsOf rows)
+    (met || coversSome r (rowsOf (drop (2 * k) rows))) ≡ coversSome r (rowsOf rows)
 
 abbrev μ-loop : tie.MeasureT-loop
-μ-loop rows care value count k₀ k = count - k
+μ-loop rows care value count met₀ k₀ met k = count - k
 
 loop-holds : tie.Need-loop-holds Inv-loop μ-loop
 loop-holds c = refl
@@ -39,11 +39,6 @@ mul-v c = search needs
 shared-slice-read-v : tie.Need-shared-slice-read-v Inv-loop μ-loop
 shared-slice-read-v c = search needs
 
-returns : tie.Need-returns Inv-loop μ-loop
-returns c =
-    let l = c .before .before .before .before in
-    hit _ _ _ _ (l .before .loop .inv) (l .loop-test .taken) (c .before .if1 .taken) (c .if2 .taken)
-
 add-k : tie.Need-add-k Inv-loop μ-loop
 add-k c = search needs
 
@@ -52,12 +47,12 @@ loop-less c = search needs
 
 loop-again : tie.Need-loop-again Inv-loop μ-loop
 loop-again c =
-    let i = c .before .before .before .before .loop .inv in
-    let h = c .before .before .before .loop-test .taken in
-    either (c .if1 .came) (λ w. miss-value _ _ _ _ i h (w .0 .taken) (w .1 .left)) (λ w. miss-care _ _ _ _ i h (w .left))
+    let l = c .before .before .before in
+    let s = l .before in
+    looked (s .args .row) (s .args .rows .now) (l .loop .k) (l .loop .met) _ (l .loop .inv) (c .before .before .loop-test .taken)
 
-returns-2 : tie.Need-returns-2 Inv-loop μ-loop
-returns-2 c = missed _ _ _ _ (c .before .loop .inv) (c .loop-test .left)
+returns : tie.Need-returns Inv-loop μ-loop
+returns c = all-looked _ _ _ _ _ (c .before .loop .inv) (c .loop-test .left)
 
 pub inside-spec : {M : Type 1} → statement M
 inside-spec =
@@ -72,8 +67,7 @@ inside-spec =
     add-v
     mul-v
     shared-slice-read-v
-    returns
     add-k
     loop-less
     loop-again
-    returns-2)
+    returns)

@@ -4,7 +4,7 @@ ghost use mathlib.Core.Path.{_≡_};
 ghost use mathlib.Core.Bool.{not};
 ghost use mathlib.Core.List.{[], _++_};
 ghost use Prim.Native.Nat.{_+_, _*_, _≤_};
-ghost use lib.ListN.{length, set};
+ghost use lib.ListN.{length};
 ghost use Rattle.rules.specs.Words.{dashes};
 ghost use Rattle.rules.specs.Search.{smallest, found, notBelow};
 ghost use Rattle.rules.specs.Method.{maxRows, generated, complete};
@@ -26,7 +26,7 @@ pub struct Generated {
 }
 
 // The smallest setting of the sheet, not below the last, that lies in none of the first rows of the run.
-fn next_from(order: &[u32], last: Setting, on: &[u8], kept: &[u32], rows: usize) -> Found
+pub fn next_from(order: &[u32], last: Setting, on: &[u8], kept: &[u32], rows: usize) -> Found
     requires { ⌜ Asked (now order) (numbersOf (now on)) [] (firstRows rows (now kept)) ⌝ }
     requires { ⌜ 2 * rows ≤ length (now kept) ⌝ }
     ensures { λ r. ⌜ foundAs r ≡ smallest (notBelow (now (order .entry)) (last .0) (asks (now (on .entry)) (firstRows rows (now (kept .entry))))) (now (order .entry)) dashes ⌝ }

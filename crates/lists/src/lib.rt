@@ -4,8 +4,10 @@
 pub use partial::partial_list;
 pub use whole::whole_list;
 
-// The method on what is lent, for callers that lend a sheet in place: rows in a run of words, blanks where they went; and
-// pruning by itself.
+// The method on what is lent, for callers that lend a sheet in place: rows in a run of words, blanks where they went; pruning by
+// itself; and one step of generation with how a row is kept.
+pub use generate::next_from;
+
 mod barring;
 pub mod build;
 mod build_part;
@@ -13,7 +15,7 @@ mod formed;
 mod generate;
 mod partial;
 pub mod prune;
-mod put;
+pub mod put;
 pub mod solid;
 mod whole;
 mod widen;

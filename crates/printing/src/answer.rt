@@ -8,7 +8,6 @@ ghost use Rattle.rules.specs.Answers.{over};
 ghost use Rattle.rules.specs.Calls.{rowsIn};
 ghost use Rattle.rules.specs.Program.{listOutput};
 ghost use Rattle.given.specs.Given.{inForm};
-ghost use Rattle.pla.specs.Put.{Puts};
 ghost use Rattle.printing.specs.Printed.{maxPrinted, answerText, countOf};
 use crate::line::put_refusal;
 use crate::order::count_up;

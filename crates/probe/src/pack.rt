@@ -14,7 +14,6 @@ use rules::PruneAnswer;
 use rules::QueryAnswer;
 use rules::ReadAnswer;
 use rules::Refusal;
-use rules::Setting;
 use rules::ValueAnswer;
 use rules::WriteAnswer;
 

@@ -3,45 +3,26 @@
 ghost use mathlib.Core.Path.{_≡_};
 ghost use mathlib.Core.List.{[], _++_};
 ghost use Prim.Native.Nat.{_+_, _*_, _≤_};
-ghost use lib.ListN.{length, set};
-ghost use Rattle.rules.specs.Words.{dashes, full};
-ghost use Rattle.rules.specs.Search.{smallest, notBelow};
+ghost use lib.ListN.{length};
+ghost use Rattle.rules.specs.Words.{full};
 ghost use Rattle.rules.specs.Method.{all, generated};
 ghost use Rattle.rules.specs.Answers.{over};
 ghost use Rattle.sheets.specs.Barred.{barred, pairsOf};
 ghost use Rattle.sheets.specs.Numbers.{numbersOf};
-ghost use Rattle.search.specs.Question.{Asked, foundAs};
+ghost use Rattle.search.specs.Question.{Asked};
 ghost use Rattle.lists.specs.Lent.{asks, firstRows};
 ghost use Rattle.probe.specs.Phase.{bytesForm, phase, phaseWords, rowsForm};
+use lists::next_from;
+use lists::put::put;
 use rules::Row;
 use rules::Setting;
 use rules::Sheet;
 use search::Found;
-use search::find_from;
 use search::is_inputs;
 use sheets::bar;
 use sheets::is_order;
 use sheets::well_formed;
 use sheets::well_formed_bytes;
-
-// The smallest setting of the sheet, not below the last, that lies in none of the first rows of the run.
-fn next_from(order: &[u32], last: Setting, on: &[u8], kept: &[u32], rows: usize) -> Found
-    requires { ⌜ Asked (now order) (numbersOf (now on)) [] (firstRows rows (now kept)) ⌝ }
-    requires { ⌜ 2 * rows ≤ length (now kept) ⌝ }
-    ensures { λ r. ⌜ foundAs r ≡ smallest (notBelow (now (order .entry)) (last .0) (asks (now (on .entry)) (firstRows rows (now (kept .entry))))) (now (order .entry)) dashes ⌝ }
-{
-    find_from(order, last, on, &on[..0], &kept[..2 * rows])
-}
-
-// Writes the row as the i-th: care, then value.
-fn put(kept: &mut [u32], i: usize, row: Row)
-    requires { ⌜ 2 * i + 2 ≤ length (now kept) ⌝ }
-    ensures { λ _. ⌜ now (kept .exit) ≡ set (set (now (kept .entry)) (2 * i) (row .care)) (2 * i + 1) (row .value) ⌝ }
-{
-    let at = 2 * i;
-    kept[at] = row.care;
-    kept[at + 1] = row.value;
-}
 
 // Keeps the first k settings behind the rows that the sheet's other clauses bar, and gives their count.
 fn settings(order: &[u32], on: &[u8], kept: &mut [u32], ons: usize, k: usize) -> usize

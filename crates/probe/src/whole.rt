@@ -1,6 +1,6 @@
 // The whole list.
 ghost use mathlib.Core.Path.{_≡_};
-ghost use Rattle.rules.specs.Answers.{after, listReply, replyOf};
+ghost use Rattle.rules.specs.Answers.{after, replyOf};
 ghost use Rattle.rules.specs.Calls.{cares, lent, listValues, roomIn, values, whole};
 ghost use Rattle.probe.specs.Packed.{packedCounts};
 use crate::pack::list_reply;

@@ -9,11 +9,12 @@ use lib.IntN.{ℤ}
 use lib.ListN.{length, drop}
 use borrow.Author.Tests.{lt-ltb, le-ltb, eq-eqb, ne-eqb}
 use Rattle.rules.specs.Sheets.{maxNumbers, clauses, endsClosed}
+use Rattle.rules.specs.Search.{found}
 use Rattle.rules.specs.Dimacs.{maxBytes, Header, header, numbers, tokens}
 use Rattle.rules.specs.Answers.{Reply, Check, check, refusal, answered, Verdict, given, refused, judge, replyOf, over}
 use Rattle.rules.specs.Calls.{Read, refusal15, readValues, read}
 use Rattle.rules.proofs.Judged.{judge-applies, judge-passes}
-use Rattle.rules.proofs.Refusals.{missing, read-judges}
+use Rattle.rules.proofs.Refusals.{read-judges}
 use Rattle.dimacs.specs.Bodies.{numbersFrom, sheetOf}
 use Rattle.dimacs.specs.Verdicts.{bodyVerdict, cellsOf}
 
@@ -32,13 +33,13 @@ result o = record { inputs = headerFrom o .inputs; numbers = sheetFrom o }
 
 abbrev bodyChecks : Option Header → ℕ → List Check
 bodyChecks o room =
-    check 12 (missing (bodyFrom o))
+    check 12 (not (found (bodyFrom o)))
     ∷ check 13 (not (eqb (clauses (sheetFrom o)) (headerFrom o .clauses) && endsClosed true (sheetFrom o)))
     ∷ refusal15 (length (sheetFrom o)) (min room maxNumbers)
     ∷ []
 
 whole : ℕ → Option Header → ℕ → Verdict Read
-whole n o room = judge (check 10 (ltb maxBytes n) ∷ check 11 (missing o) ∷ bodyChecks o room) (result o)
+whole n o room = judge (check 10 (ltb maxBytes n) ∷ check 11 (not (found o)) ∷ bodyChecks o room) (result o)
 
 is-whole : (text : List ℕ) (room : ℕ) → read text room ≡ whole (length text) (header text) room
 unfolding whole
@@ -49,7 +50,7 @@ pub long-text : (text : List ℕ) (room : ℕ) → maxBytes < length text → re
 unfolding whole
 long-text text room l = is-whole text room ∙ judge-applies (result (header text)) _ _ (lt-ltb maxBytes (length text) l)
 
-not-long : (n : ℕ) (o : Option Header) (room : ℕ) → n ≤ maxBytes → whole n o room ≡ judge (check 11 (missing o) ∷ bodyChecks o room) (result o)
+not-long : (n : ℕ) (o : Option Header) (room : ℕ) → n ≤ maxBytes → whole n o room ≡ judge (check 11 (not (found o)) ∷ bodyChecks o room) (result o)
 unfolding whole
 not-long n o room l = judge-passes (result o) _ _ (le-ltb maxBytes n l)
 

@@ -1,6 +1,6 @@
 -- What is read is a well-formed sheet over the inputs that the header names.
 use mathlib.Core.Path.{_≡_, refl, _∙_, ap, subst}
-use mathlib.Core.Bool.{Bool, true, false, _&&_}
+use mathlib.Core.Bool.{Bool, true, false, not, _&&_}
 use mathlib.Core.List.{List, [], _∷_}
 use mathlib.Core.Option.{Option, none, some, Option·getD}
 use Prim.Native.Char.{code}
@@ -12,11 +12,12 @@ use lib.ListN.{length}
 use borrow.Author.Tests.{leb-true, le-leb, eqb-true, ltb-false}
 use Rattle.rules.specs.Words.{maxInputs}
 use Rattle.rules.specs.Sheets.{maxNumbers, maxClauses, variable, clauses, endsClosed, inReach, wellFormed}
+use Rattle.rules.specs.Search.{found}
 use Rattle.rules.specs.Answers.{given}
 use Rattle.rules.specs.Dimacs.{_>>=_, ascii, isDigit, afterComments, afterBytes, afterSpaces, afterAll, front, headerEnd, Header, header, Token, number, ends, other, signed, within, decimal, tokenOf, joinNumber, tokens, numbers}
 use Rattle.rules.specs.Calls.{Read, read}
 use Rattle.rules.proofs.Logic.{test, clash, and-both, and-join, not-no}
-use Rattle.rules.proofs.Refusals.{given-none, missing, headerOf, bodyOf, readResult, read-judges}
+use Rattle.rules.proofs.Refusals.{given-none, headerOf, bodyOf, readResult, read-judges}
 
 -- What holds of nothing, and of the second step wherever the first one leads, holds of both steps in a row.
 both-steps : {A B : Type 0} (P : Option B → Type 0) (o : Option A) (f : A → Option B) → P none → ((a : A) → o ≡ some a → P (f a)) → P (o >>= f)
@@ -100,11 +101,11 @@ numbers-reach v [] = refl
 numbers-reach v (w ∷ ws) = join-reach v (tokenOf v w) (numbers v ws) (token-reach v w) (numbers-reach v ws)
 
 -- What is not missing is there.
-present : {A : Type 0} (o : Option A) (d : A) → missing o ≡ false → o ≡ some (Option·getD o d)
+present : {A : Type 0} (o : Option A) (d : A) → not (found o) ≡ false → o ≡ some (Option·getD o d)
 present none d m = clash refl m
 present (some a) d m = refl
 
-body-reach : (text : List ℕ) → missing (bodyOf text) ≡ false → inReach (headerOf text .inputs) (readResult text .numbers) ≡ true
+body-reach : (text : List ℕ) → not (found (bodyOf text)) ≡ false → inReach (headerOf text .inputs) (readResult text .numbers) ≡ true
 body-reach text m =
     let v = headerOf text .inputs in
     subst (λ o. allReach v o ≡ true) (present (bodyOf text) [] m) (numbers-reach v (tokens (headerOf text .body)))

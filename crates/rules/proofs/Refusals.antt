@@ -100,10 +100,6 @@ unfolding write
 write-judges n count rows room = record { judged = refl; ascends = refl }
 
 -- DIMACS reader: 10 to 13, 15.
-abbrev pub missing : {A : Type 0} → Option A → Bool
-missing none = true
-missing (some a) = false
-
 abbrev pub headerOf : List ℕ → Header
 headerOf text = Option·getD (header text) (record { inputs = 0; clauses = 0; body = [] })
 
@@ -116,8 +112,8 @@ readResult text = record { inputs = headerOf text .inputs; numbers = Option·get
 abbrev pub readChecks : List ℕ → ℕ → List Check
 readChecks text room =
     check 10 (ltb maxBytes (length text))
-    ∷ check 11 (missing (header text))
-    ∷ check 12 (missing (bodyOf text))
+    ∷ check 11 (not (found (header text)))
+    ∷ check 12 (not (found (bodyOf text)))
     ∷ check 13 (not (eqb (clauses (readResult text .numbers)) (headerOf text .clauses) && endsClosed true (readResult text .numbers)))
     ∷ refusal15 (length (readResult text .numbers)) (min room maxNumbers)
     ∷ []

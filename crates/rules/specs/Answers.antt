@@ -1,17 +1,10 @@
 -- What a call answers: this paper's number and values for each case of each answer; and how the refusals of a call are judged.
-use mathlib.Core.Bool.{Bool, cond}
-use mathlib.Core.List.{List, [], _∷_, _++_}
+use mathlib.Core.{Bool.Bool, Bool.cond, List.List, List.[], List._∷_, List._++_}
 use Prim.Native.Nat.{ℕ}
 use lib.ListN.{length, drop}
-use Rattle.rules.specs.Words.{one}
-use Rattle.rules.specs.declared.Refusal.{Refusal}
-use Rattle.rules.specs.declared.ListAnswer.{ListAnswer}
-use Rattle.rules.specs.declared.PartialAnswer.{PartialAnswer}
-use Rattle.rules.specs.declared.QueryAnswer.{QueryAnswer}
-use Rattle.rules.specs.declared.PruneAnswer.{PruneAnswer}
-use Rattle.rules.specs.declared.ValueAnswer.{ValueAnswer}
-use Rattle.rules.specs.declared.ReadAnswer.{ReadAnswer}
-use Rattle.rules.specs.declared.WriteAnswer.{WriteAnswer}
+use Rattle.rules.specs.{Words.one, declared.Refusal.Refusal, declared.ListAnswer.ListAnswer, declared.PartialAnswer.PartialAnswer}
+use Rattle.rules.specs.{declared.QueryAnswer.QueryAnswer, declared.PruneAnswer.PruneAnswer, declared.ValueAnswer.ValueAnswer}
+use Rattle.rules.specs.{declared.ReadAnswer.ReadAnswer, declared.WriteAnswer.WriteAnswer}
 
 -- number: 0 for a result, else the refusal's. values: those of the result, and for refusal 6 the setting.
 pub record Reply : Type 0 where

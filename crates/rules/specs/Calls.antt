@@ -1,23 +1,17 @@
 -- The calls: the outcome of each, its refusals in the order of their numbers, and what each lent run holds afterwards.
-use mathlib.Core.Bool.{Bool, true, false, not, _&&_}
-use mathlib.Core.List.{List, [], _∷_, _++_, map}
-use mathlib.Core.Option.{Option, none, some, Option·getD}
+use mathlib.Core.{Bool.Bool, Bool.true, Bool.false, Bool.not, Bool._&&_, List.List, List.[], List._∷_, List._++_, List.map}
+use mathlib.Core.{Option.Option, Option.none, Option.some, Option.Option·getD}
 use Prim.Native.Nat.{ℕ, _+_, _*_, _/_, _%_, min}
-use lib.Dec.{eqb, leb, ltb}
-use lib.IntN.{ℤ}
-use lib.ListN.{length, take}
-use mir.Syntax.{w32}
-use mir.Val.{toZ}
-use Rattle.rules.specs.declared.Row.{Row}
-use Rattle.rules.specs.Words.{isInputs, isOrder, isRow, fits, dashes, inSome, natural, one}
-use Rattle.rules.specs.Sheets.{maxNumbers, wellFormed, satisfies, clauses, endsClosed}
-use Rattle.rules.specs.Search.{smallest, found, notBelow}
-use Rattle.rules.specs.Method.{maxRows, generated, complete, listOf, marks, all}
-use Rattle.rules.specs.Answers.{Reply, Check, check, Verdict, judge}
-use Rattle.rules.specs.Dimacs.{maxBytes, header, numbers, tokens}
-use Rattle.rules.specs.Pla.{textOf}
+use lib.{Dec.eqb, Dec.leb, Dec.ltb, IntN.ℤ, ListN.length, ListN.take}
+use mir.{Syntax.w32, Val.toZ}
+use Rattle.rules.specs.{declared.Row.Row, Words.isInputs, Words.isOrder, Words.isRow, Words.fits, Words.dashes, Words.inSome, Words.natural}
+use Rattle.rules.specs.{Words.one, Sheets.maxNumbers, Sheets.wellFormed, Sheets.satisfies, Sheets.clauses, Sheets.endsClosed, Search.smallest}
+use Rattle.rules.specs.{Search.found, Search.notBelow, Method.maxRows, Method.generated, Method.complete, Method.listOf, Method.marks, Method.all}
+use Rattle.rules.specs.{Answers.Reply, Answers.Check, Answers.check, Answers.Verdict, Answers.judge, Dimacs.maxBytes, Dimacs.header}
+use Rattle.rules.specs.{Dimacs.numbers, Dimacs.tokens, Pla.textOf}
 
--- How a run is lent. Words stand as they are; in bytes a word is four, lowest first, and one to three may be left over.
+-- How a run is lent. Words stand as they are; in bytes a word is four, lowest first, and one to three may be left over. A number is
+-- signed by its 32 bits.
 pub record Run (A : Type 0) : Type 0 where
   pub items : List A
   pub isWhole : Bool
@@ -32,19 +26,18 @@ wordsOf (a ∷ b ∷ []) = []
 wordsOf (a ∷ b ∷ c ∷ []) = []
 wordsOf (a ∷ b ∷ c ∷ d ∷ bs) = (a + b * 256 + c * 65536 + d * 16777216) ∷ wordsOf bs
 
+unfoldable pub bytesOf : List ℕ → List ℕ
+bytesOf [] = []
+bytesOf (w ∷ ws) = w % 256 ∷ w / 256 % 256 ∷ w / 65536 % 256 ∷ w / 16777216 % 256 ∷ bytesOf ws
+
 abbrev pub noneLeftOver : List ℕ → Bool
 noneLeftOver bs = eqb (length bs % 4) 0
 
 abbrev pub lentWords : List ℕ → Run ℕ
 lentWords bs = record { items = wordsOf bs; isWhole = noneLeftOver bs }
 
--- Signed numbers by their 32 bits.
 abbrev pub lentNumbers : List ℕ → Run ℤ
 lentNumbers bs = record { items = map (toZ w32) (wordsOf bs); isWhole = noneLeftOver bs }
-
-unfoldable pub bytesOf : List ℕ → List ℕ
-bytesOf [] = []
-bytesOf (w ∷ ws) = w % 256 ∷ w / 256 % 256 ∷ w / 65536 % 256 ∷ w / 16777216 % 256 ∷ bytesOf ws
 
 -- The refusals that several calls share, by number.
 abbrev pub refusal1 : ℕ → Check
@@ -153,16 +146,12 @@ read text room =
     let zs = Option·getD body [] in
     judge
     (check 10 (ltb maxBytes (length text))
-    ∷ check 11 (missing (header text))
-    ∷ check 12 (missing body)
+    ∷ check 11 (not (found (header text)))
+    ∷ check 12 (not (found body))
     ∷ check 13 (not (eqb (clauses zs) (h .clauses) && endsClosed true zs))
     ∷ refusal15 (length zs) (min room maxNumbers)
     ∷ [])
     (record { inputs = h .inputs; numbers = zs })
-  where
-    missing : {A : Type 0} → Option A → Bool
-    missing none = true
-    missing (some a) = false
 
 -- The values of each result.
 abbrev pub listValues : List Row → List ℕ

@@ -1,15 +1,9 @@
 -- DIMACS CNF, read strictly. A text is a run of bytes.
-use mathlib.Core.Bool.{Bool, true, false, not, cond, _&&_, _||_}
-use mathlib.Core.List.{List, [], _∷_}
-use mathlib.Core.Option.{Option, none, some, Option·getD}
-use Prim.Native.Char.{code}
-use Prim.Native.Nat.{ℕ, _+_, _-_, _*_}
-use Prim.Native.String.{String}
-use lib.Dec.{eqb, leb}
-use lib.IntN.{ℤ, pos, negsuc}
-use lib.ListN.{length, drop}
-use Rattle.rules.specs.Words.{maxInputs}
-use Rattle.rules.specs.Sheets.{maxClauses}
+use mathlib.Core.{Bool.Bool, Bool.true, Bool.false, Bool.not, Bool.cond, Bool._&&_, Bool._||_, List.List, List.[], List._∷_}
+use mathlib.Core.{Option.Option, Option.none, Option.some, Option.Option·getD}
+use Prim.Native.{Char.code, Nat.ℕ, Nat._+_, Nat._-_, Nat._*_, String.String}
+use lib.{Dec.eqb, Dec.leb, IntN.ℤ, IntN.pos, IntN.negsuc, ListN.length, ListN.drop}
+use Rattle.rules.specs.{Words.maxInputs, Sheets.maxClauses}
 
 -- A text has at most 32,768 bytes.
 abbrev pub maxBytes : ℕ

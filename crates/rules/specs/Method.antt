@@ -1,12 +1,9 @@
 -- The method: next setting, widening, generation, pruning. `on` and `off` say which settings the sheets ask for.
-use mathlib.Core.Bool.{Bool, true, not, cond, _&&_}
-use mathlib.Core.List.{List, [], _∷_, _++_}
-use mathlib.Core.Option.{Option, none, some}
+use mathlib.Core.{Bool.Bool, Bool.true, Bool.not, Bool.cond, Bool._&&_, List.List, List.[], List._∷_, List._++_}
+use mathlib.Core.{Option.Option, Option.none, Option.some}
 use Prim.Native.Nat.{ℕ, zero, suc}
 use lib.ListN.{length}
-use Rattle.rules.specs.declared.Row.{Row}
-use Rattle.rules.specs.Words.{dashes, full, without, inSome}
-use Rattle.rules.specs.Search.{smallest, holdsSome}
+use Rattle.rules.specs.{declared.Row.Row, Words.dashes, Words.full, Words.without, Words.inSome, Search.found, Search.smallest, Search.holdsSome}
 
 -- A list has at most 256 rows.
 abbrev pub maxRows : ℕ
@@ -25,18 +22,18 @@ widenAt (v ∷ vs) order off r = widenAt vs order off (cond (holdsSome off order
 unfoldable pub widen : List ℕ → (ℕ → Bool) → ℕ → Row
 widen order off s = widenAt order order off (full (length order) s)
 
+-- The first k generated rows (all if fewer): the row of the next setting, while there is one, comes behind the others.
 abbrev pub grown : List ℕ → (ℕ → Bool) → List Row → Option ℕ → List Row
 grown order off rows none = rows
 grown order off rows (some s) = rows ++ (widen order off s ∷ [])
 
--- The first k generated rows (all if fewer).
 unfoldable pub generated : List ℕ → (ℕ → Bool) → (ℕ → Bool) → ℕ → List Row
 generated order on off zero = []
 generated order on off (suc k) = let rows = generated order on off k in grown order off rows (next order on rows)
 
 -- Generation has no more than these rows.
 abbrev pub complete : List ℕ → (ℕ → Bool) → List Row → Bool
-complete order on rows = not (Rattle.rules.specs.Search.found (next order on rows))
+complete order on rows = not (found (next order on rows))
 
 -- A row stays if some setting of it that counts lies in none of the others.
 abbrev pub needed : (ℕ → Bool) → List ℕ → Row → List Row → Bool

@@ -1,13 +1,9 @@
 -- PLA text: what is written for a list, and, apart from that, what a text says at a setting.
-use mathlib.Core.Bool.{Bool, true, false, not, cond, _&&_, _||_}
-use mathlib.Core.List.{List, [], _∷_, _++_}
-use Prim.Native.Char.{code}
-use Prim.Native.Nat.{ℕ, zero, suc, _+_, _/_, _%_}
-use lib.Dec.{eqb, ltb}
-use lib.ListN.{length}
-use Rattle.rules.specs.declared.Row.{Row}
-use Rattle.rules.specs.Words.{isOne, fixes}
-use Rattle.rules.specs.Dimacs.{ascii}
+use mathlib.Core.{Bool.Bool, Bool.true, Bool.false, Bool.not, Bool.cond, Bool._&&_, Bool._||_}
+use mathlib.Core.{List.List, List.[], List._∷_, List._++_}
+use Prim.Native.{Char.code, Nat.ℕ, Nat.zero, Nat.suc, Nat._+_, Nat._/_, Nat._%_}
+use lib.{Dec.eqb, Dec.ltb, ListN.length}
+use Rattle.rules.specs.{declared.Row.Row, Words.isOne, Words.fixes, Dimacs.ascii}
 
 -- The digits of a number below 1,000, without leading zeros.
 abbrev pub digit : ℕ → ℕ

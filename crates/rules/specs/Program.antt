@@ -1,15 +1,10 @@
 -- The program: what it prints for the texts of on.cnf and off.cnf.
-use mathlib.Core.Bool.{not}
-use mathlib.Core.List.{List, [], _∷_, _++_}
+use mathlib.Core.{Bool.not, List.List, List.[], List._∷_, List._++_}
 use Prim.Native.Nat.{ℕ}
 use lib.Dec.{eqb}
-use Rattle.rules.specs.Words.{natural}
-use Rattle.rules.specs.Sheets.{maxNumbers}
-use Rattle.rules.specs.Method.{maxRows}
-use Rattle.rules.specs.Answers.{Reply, check, Verdict, given, refused, judge}
-use Rattle.rules.specs.Dimacs.{ascii}
-use Rattle.rules.specs.Pla.{digits, settingChars, textOf}
-use Rattle.rules.specs.Calls.{Read, lent, read, whole}
+use Rattle.rules.specs.{Words.natural, Sheets.maxNumbers, Method.maxRows, Answers.Reply, Answers.check, Answers.Verdict, Answers.given}
+use Rattle.rules.specs.{Answers.refused, Answers.judge, Dimacs.ascii, Pla.digits, Pla.settingChars, Pla.textOf, Calls.Read, Calls.lent}
+use Rattle.rules.specs.Calls.{read, whole}
 
 -- `refused`, a space, the number, and for 6 a space and the setting, variable 1 first.
 abbrev pub settingsLine : ℕ → List ℕ → List ℕ

@@ -1,11 +1,7 @@
 -- Sheets: a run of signed numbers, in which 0 closes a clause.
-use mathlib.Core.Bool.{Bool, true, false, not, cond, _&&_, _||_}
-use mathlib.Core.List.{List, [], _∷_}
+use mathlib.Core.{Bool.Bool, Bool.true, Bool.false, Bool.not, Bool.cond, Bool._&&_, Bool._||_, List.List, List.[], List._∷_}
 use Prim.Native.Nat.{ℕ, _+_}
-use lib.Dec.{eqb, leb}
-use lib.IntN.{ℤ, pos, negsuc, natAbs}
-use lib.ListN.{length}
-use lib.Signed.{nonNeg}
+use lib.{Dec.eqb, Dec.leb, IntN.ℤ, IntN.pos, IntN.negsuc, IntN.natAbs, ListN.length, Signed.nonNeg}
 use Rattle.rules.specs.Words.{isOne, one}
 
 -- A sheet has at most 8,192 numbers and 1,024 clauses.
@@ -26,10 +22,14 @@ positive z = nonNeg z
 abbrev pub isTrue : ℕ → ℤ → Bool
 isTrue s z = cond (positive z) (isOne (variable z) s) (not (isOne (variable z) s))
 
--- The number closes a clause.
+-- The number closes a clause; and how many do.
 abbrev pub closes : ℤ → Bool
 closes (pos m) = eqb m 0
 closes (negsuc m) = false
+
+unfoldable pub clauses : List ℤ → ℕ
+clauses [] = 0
+clauses (z ∷ zs) = one (closes z) + clauses zs
 
 -- Every clause has a literal that passes. `met`: the clause that is being read has one already.
 unfoldable pub everyClause : (ℤ → Bool) → Bool → List ℤ → Bool
@@ -39,10 +39,6 @@ everyClause passes met (z ∷ zs) = cond (closes z) (met && everyClause passes f
 -- The setting satisfies the sheet.
 unfoldable pub satisfies : List ℤ → ℕ → Bool
 satisfies sheet s = everyClause (isTrue s) false sheet
-
-unfoldable pub clauses : List ℤ → ℕ
-clauses [] = 0
-clauses (z ∷ zs) = one (closes z) + clauses zs
 
 -- The sheet ends in 0; `closed` says it of what was read before.
 unfoldable pub endsClosed : Bool → List ℤ → Bool

@@ -7,7 +7,7 @@
 #include <string.h>
 #include <time.h>
 
-enum { ROUNDS = 9, ABC_ROUNDS = 3, LINES = 64, WORDS = 4 * MAX_CLAUSES };
+enum { ROUNDS = 25, ABC_ROUNDS = 5, LINES = 64, WORDS = 4 * MAX_CLAUSES };
 
 /* A call to measure; it answers a number that both sides must agree on. */
 typedef uint64_t Call(const Pair *pair);

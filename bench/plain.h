@@ -26,6 +26,7 @@ typedef struct {
     const Clauses *first, *second;
     const Row *kept;
     size_t count;
+    const uint32_t *swift; /* another order, to ask in whether there is any; NULL: the order itself */
 } Question;
 
 /* The smallest setting of the row that does; and the smallest of all settings not below a start. */

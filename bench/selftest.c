@@ -48,9 +48,9 @@ static void check_queries(const Pair *p, uint32_t rank)
     write_bytes(&p->on, on_bytes);
     write_bytes(&p->off, off_bytes);
     Clauses on = {on_bytes, p->on.count}, off = {off_bytes, p->off.count};
-    Question barred = {p->n, p->order, NULL, NULL, rows, bar(p->on.numbers, p->on.count, rows)};
-    Question in_place = {p->n, p->order, &on, NULL, NULL, 0};
-    Question both = {p->n, p->order, &on, &off, NULL, 0};
+    Question barred = {p->n, p->order, NULL, NULL, rows, bar(p->on.numbers, p->on.count, rows), NULL};
+    Question in_place = {p->n, p->order, &on, NULL, NULL, 0, NULL};
+    Question both = {p->n, p->order, &on, &off, NULL, 0, NULL};
     uint32_t from = at_rank(p, rank), end = (uint32_t)1 << p->n, a = 0, b = 0, c = 0;
     while (rank < end && !satisfied(&p->on, at_rank(p, rank)))
         rank++;

@@ -47,11 +47,10 @@ module _ (order on off both : List ℕ) (offs : ℕ) (old : List ℕ) (ons : ℕ
   isOrder = is-order (length order) order (lent .on-asked .ordered)
 
   -- the first question is whether the sheets collide
-  pub met-is : (r : Row) → (r .care ≡ 0) × (r .value ≡ 0) → (met : Option ℕ) → met ≡ smallest (good (numbersOf on) (numbersOf off) (rowsOf both)) order r
+  pub met-is : (met : Option ℕ) → met ≡ smallest (good (numbersOf on) (numbersOf off) (rowsOf both)) order dashes
       → collision order onAt offAt ≡ met
-  met-is r e met h =
-      sym (h ∙ ap (smallest (good (numbersOf on) (numbersOf off) (rowsOf both)) order) (is-dashes r e)
-      ∙ ap (λ (x : List Row). smallest (good (numbersOf on) (numbersOf off) x) order dashes) (lent .joined)
+  met-is met h =
+      sym (h ∙ ap (λ (x : List Row). smallest (good (numbersOf on) (numbersOf off) x) order dashes) (lent .joined)
       ∙ collision-found (length order) order isOrder (numbersOf on) (firstRows ons old) (numbersOf off) (firstRows offs both))
 
   first-size : length (firstRows ons old) ≡ ons

@@ -34,7 +34,7 @@ fn settings(order: &[u32], on: &[u8], kept: &mut [u32], ons: usize, k: usize) ->
     let mut count = 0;
     let mut last = Setting(0);
     while count < k {
-        let met = next_from(order, last, on, kept, ons + count);
+        let met = next_from(order, order, last, on, kept, ons + count);
         match met {
             Found::At(s) => {
                 let row = Row::full(order.len() as u32, s);

@@ -4,4 +4,6 @@ pub mod Covers
 pub mod Liveness
 pub mod Places
 pub mod Steps
+pub mod Skipping
+pub mod Swift
 pub mod Queries

@@ -39,6 +39,9 @@ module _ (P : ℕ → Bool) (order : List ℕ) (place : ℕ) (r : Row) where
           let z' : foundAs found ≡ smallest P (drop (place + 1) order) (atZero v r) = z ∙ ap (smallest P (drop (place + 1) order)) low-is in
           sym (tries f ∙ rw (← z', e))
 
+      pub zero-found : (t : ℕ) → some t ≡ smallest P (drop (place + 1) order) low → some t ≡ smallest P (drop place order) r
+      zero-found t z = sym (tries f ∙ rw (← low-is, ← z))
+
       pub with-one : (high : Row) → high ≡ atOne v r → (o : Option ℕ) → smallest P (drop (place + 1) order) low ≡ none
           → o ≡ smallest P (drop (place + 1) order) high → o ≡ smallest P (drop place order) r
       with-one high high-is o z e = sym (tries f ∙ rw (← low-is, ← high-is, z, ← e))
@@ -69,10 +72,10 @@ module _ (P : ℕ → Bool) (start : ℕ) (order : List ℕ) (place : ℕ) (r : 
       from-above high high-is o z f = rw (first-left order place v h e, b, ← low-is, ← high-is, z, ← f)
 
 -- before the first place: the row without literals fixes nothing, and the whole order is left
-abbrev Dashes : Row → Type 0
+abbrev pub Dashes : Row → Type 0
 Dashes r = (r .care ≡ 0) × (r .value ≡ 0)
 
-is-dashes : (r : Row) → Dashes r → r ≡ dashes
+pub is-dashes : (r : Row) → Dashes r → r ≡ dashes
 is-dashes r d = λ i. record { care = d .0 i; value = d .1 i }
 
 pub dashes-free : (vs : List ℕ) (r : Row) → Dashes r → Free vs r

@@ -3,16 +3,17 @@ use mathlib.Core.Path.{_≡_}
 use mathlib.Core.Bool.{Bool, true, false, not, _&&_, _||_}
 use mathlib.Core.List.{List, [], _∷_}
 use mathlib.Core.Option.{Option, none, some}
-use Prim.Native.Nat.{ℕ, _<_, _≤_}
+use Prim.Native.Nat.{ℕ, _^_, _<_, _≤_}
 use lib.Bits.{bitAnd}
 use lib.Dec.{eqb}
 use lib.IntN.{ℤ}
-use lib.ListN.{length, drop}
+use lib.ListN.{length, getD, drop}
 use Rattle.rules.specs.declared.Row.{Row}
-use Rattle.rules.specs.Words.{maxInputs, isOrder, fits, holds, inSome}
+use Rattle.rules.specs.Words.{maxInputs, isOrder, fits, isOne, holds, isRow, inSome}
 use Rattle.rules.specs.Sheets.{satisfies, everyClause, inReach}
 use Rattle.rules.proofs.Bits.{bit}
 use Rattle.rules.proofs.Orders.{has}
+use Rattle.rules.proofs.From.{Free}
 use Rattle.sheets.specs.Open.{isOpen}
 use Rattle.search.specs.declared.Found.{Found}
 use Rattle.search.specs.declared.Found.the-variants.{At, Nothing}
@@ -54,3 +55,21 @@ pub record Asked (order : List ℕ) (a b : List ℤ) (rows : List Row) : Type 0 
 -- the row fixes every variable before the place: each that is none of those left
 abbrev pub Passed : List ℕ → ℕ → Row → Type 0
 Passed order place r = (i : ℕ) → i < length order → has i (drop place order) ≡ false → bit i (r .care) ≡ true
+
+-- from the place on, the variables up to the later place are in the care word, and the one there is not
+pub record Skips (order : List ℕ) (place : ℕ) (care : ℕ) (later : ℕ) : Type 0 where
+  pub onward : place ≤ later
+  pub fixed : (k : ℕ) → place ≤ k → k < later → (k < length order) × (isOne (getD order k 0) care ≡ true)
+  pub stops : later < length order → isOne (getD order later 0) care ≡ false
+
+-- the row fixes the variables before the place, and no others
+pub record Ahead (order : List ℕ) (place : ℕ) (r : Row) : Type 0 where
+  pub formed : isRow (length order) r ≡ true
+  pub passed : Passed order place r
+  pub free : Free (drop place order) r
+
+-- a setting of n inputs, in the row, that passes
+pub record Met (passes : ℕ → Bool) (n : ℕ) (r : Row) (s : ℕ) : Type 0 where
+  pub passed : passes s ≡ true
+  pub held : holds r s ≡ true
+  pub below : s < 2 ^ n

@@ -9,7 +9,7 @@ ghost use Rattle.rules.specs.Answers.{queryReply, replyOf};
 ghost use Rattle.rules.specs.Calls.{lent, listed, query};
 ghost use Rattle.search.specs.Question.{foundAs};
 use crate::Found;
-use crate::bounded::find_from;
+use crate::bounded::seek_from;
 use rules::QueryAnswer;
 use rules::Refusal;
 use rules::Row;
@@ -44,7 +44,7 @@ pub fn satisfied_from(n: u32, order: &[u32], sheet: &[i32], start: Setting) -> F
     let mut rows: [u32; 2 * Sheet::MAX_CLAUSES] = [0; 2 * Sheet::MAX_CLAUSES];
     let count = bar(n, sheet, &mut rows);
     let end = 2 * count;
-    find_from(order, start, &[], &[], &rows[..end])
+    seek_from(order, start, &[], &[], &rows[..end])
 }
 
 // The query: refusals 1, 2, 3 and 9 in this order, else the setting.

@@ -3,6 +3,7 @@
 mod bounded;
 mod calls;
 mod cut;
+mod lower;
 mod smallest;
 mod step;
 
@@ -14,8 +15,9 @@ pub enum Found {
     Nothing,
 }
 
-// In a row, and from a start on.
+// In a row; from a start on, and from the first setting on, with a swift order to ask in.
 pub use bounded::find_from;
+pub use lower::find_first;
 pub use smallest::find;
 
 // The variable at a place.

@@ -1,5 +1,5 @@
 // The search: place by place of the order, a variable that the row fixes is passed, any other is tried at 0 and then at 1. A row
-// is looked at once, where a variable was fixed; a row that is not live is left.
+// is looked at once, where a variable was fixed; a row that is not live is left. Passing takes no stack.
 ghost use mathlib.Core.Path.{_≡_};
 ghost use mathlib.Core.Bool.{true};
 ghost use lib.ListN.{drop};
@@ -11,11 +11,11 @@ use crate::Found;
 use crate::cut::live;
 use crate::step::at_one;
 use crate::step::at_zero;
+use crate::step::next_free;
 use crate::step::var_at;
 use rules::Place;
 use rules::Row;
 use rules::Setting;
-use sheets::is_one;
 
 // The smallest good setting of a live row that fixes every variable before the place.
 pub fn search(order: &&[u32], place: Place, row: Row, a: &&[u8], b: &&[u8], rows: &&[u32]) -> Found
@@ -24,18 +24,16 @@ pub fn search(order: &&[u32], place: Place, row: Row, a: &&[u8], b: &&[u8], rows
     requires { ⌜ live (numbersOf (now (now a))) (numbersOf (now (now b))) (rowsOf (now (now rows))) row ≡ true ⌝ }
     ensures { λ r. ⌜ foundAs r ≡ smallest (good (numbersOf (now (now (a .entry)))) (numbersOf (now (now (b .entry)))) (rowsOf (now (now (rows .entry))))) (drop (place .0) (now (now (order .entry)))) row ⌝ }
 {
-    let at = place.0;
     let care = row.care;
     let value = row.value;
     let o = *order;
+    let here = next_free(o, place, care);
+    let at = here.0;
     if o.len() <= at {
         return Found::At(Setting(value));
     }
-    let v = var_at(o, place);
+    let v = var_at(o, here);
     let next = at + 1;
-    if is_one(v, care) {
-        return search(order, Place(next), row, a, b, rows);
-    }
     let low = at_zero(row, v);
     let high = at_one(row, v);
     if live(a, b, rows, low) {

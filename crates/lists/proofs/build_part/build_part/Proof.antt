@@ -1,87 +1,47 @@
-use mathlib.Core.Path.{sym, ap, _∙_}
-use native.Mathlib.Omega.{arith}
+use mathlib.Core.Path.{sym}
 use lib.Seq.{length-take-le}
 use borrow.Author.Needs.{needs}
-use Rattle.search.specs.Question.{foundAs}
-use Rattle.lists.proofs.Builds.{reply-collides-part, reply-no-room-part, reply-gives-part}
-use Rattle.lists.proofs.Building.{met-is, made-room, made-behind}
+use Rattle.swift.proofs.Orders.{front-order, front-size, front-fits}
 use Rattle.lists.proofs.build_part.build_part.Statement.{statement}
 use Rattle.lists.proofs.build_part.build_part.Tie as tie
 
-dashes-requires : tie.Need-dashes-requires
-dashes-requires c κs = search needs
+array-borrow-prefix-space : tie.Need-array-borrow-prefix-space
+array-borrow-prefix-space c = search needs
 
-find-requires : tie.Need-find-requires
-find-requires c κs = search needs
+slice-aggregate-swift-order : tie.Need-slice-aggregate-swift-order
+slice-aggregate-swift-order c = sym (length-take-le _ _ (c .before .before .before .before .before .before .pre .0 .on-asked .size))
 
-enum-known-met : tie.Need-enum-known-met
-enum-known-met c = search needs
+swift-order-requires : tie.Need-swift-order-requires
+swift-order-requires c κs =
+    let q = c .before .before .before .before .before .before .pre .0 .on-asked in
+    (q .ordered, (q .size, length-take-le _ _ (q .size)))
 
-returns : tie.Need-returns
-returns c =
-    let f = c .before .before .before in
-    let d = f .before in
-    let s = d .before .before .before .before .before .before in
-    (reply-collides-part _ _ _ _ _ _ (met-is _ _ _ _ _ _ _ (s .pre .0) _ (d .dashes .ensures) _ (f .find .ensures) ∙ ap foundAs (c .before .met .given .1)), tt)
+array-share-prefix-space : tie.Need-array-share-prefix-space
+array-share-prefix-space c = front-fits _ _ _ (c .before .swift-order .ensures)
 
-enum-told : tie.Need-enum-told
-enum-told c = search needs
+slice-aggregate-part-by : tie.Need-slice-aggregate-part-by
+slice-aggregate-part-by c = front-size _ _ _ (c .before .before .swift-order .ensures)
 
-mul-generate : tie.Need-mul-generate
-mul-generate c = search needs
-
-slice-aggregate-generate : tie.Need-slice-aggregate-generate
-slice-aggregate-generate c =
+part-by-requires : tie.Need-part-by-requires
+part-by-requires c κs =
     let s = c .before .before .before .before .before .before .before .before .before .before in
-    sym (length-take-le _ _ (s .pre .0 .within))
-
-generate-requires : tie.Need-generate-requires
-generate-requires c κs =
-    let s = c .before .before .before .before .before .before .before .before .before .before .before in
-    (s .pre .0 .on-asked, (s .pre .0 .off-asked, (s .pre .1, (let h = s .pre .0 .room in let k = s .pre .1 in omega arith))))
+    (front-order _ _ _ (c .before .before .before .swift-order .ensures), s .pre)
 
 same-length : tie.Need-same-length
 same-length c = search needs
 
-returns-2 : tie.Need-returns-2
-returns-2 c =
-    let g = c .before .before .before in
-    let t = g .before .before .before in
-    let f = t .before .before in
-    let d = f .before in
-    let s = d .before .before .before .before .before .before in
-    let none = met-is _ _ _ _ _ _ _ (s .pre .0) _ (d .dashes .ensures) _ (f .find .ensures) ∙ ap foundAs (t .enum-told .given .1) in
-    (reply-no-room-part _ _ _ _ _ none _ (g .generate .ensures .1 .0) (c .if1 .taken), tt)
-
-same-length-2 : tie.Need-same-length-2
-same-length-2 c = search needs
-
-returns-3 : tie.Need-returns-3
-returns-3 c =
-    let g = c .before .before .before in
-    let t = g .before .before .before in
-    let f = t .before .before in
-    let d = f .before in
-    let s = d .before .before .before .before .before .before in
-    let none = met-is _ _ _ _ _ _ _ (s .pre .0) _ (d .dashes .ensures) _ (f .find .ensures) ∙ ap foundAs (t .enum-told .given .1) in
-    let made = g .generate .ensures in (
-      reply-gives-part _ _ _ _ _ none _ (made .1 .0) (c .if1 .left) _ (made .1 .1),
-      (made-room _ _ _ _ _ _ _ (s .pre .0) _ (s .pre .1) _ _ (made .0) (made .1 .0), made-behind _ _ _ _ _ _ _ (s .pre .0) _ (s .pre .1) _ _ (made .0) (made .1 .0)),
-    )
+returns : tie.Need-returns
+returns c = search needs
 
 pub build-part-spec : {M : Type 1} → statement M
 build-part-spec =
     tie.close
     (tie.spec
-    dashes-requires
-    find-requires
-    enum-known-met
-    returns
-    enum-told
-    mul-generate
-    slice-aggregate-generate
-    generate-requires
+    array-borrow-prefix-space
+    slice-aggregate-swift-order
+    swift-order-requires
+    array-share-prefix-space
+    slice-aggregate-part-by
+    part-by-requires
     same-length
-    returns-2
-    same-length-2
-    returns-3)
+    returns)

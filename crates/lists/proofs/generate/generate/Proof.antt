@@ -10,14 +10,14 @@ use Rattle.lists.proofs.generate.generate.Statement.{statement}
 use Rattle.lists.proofs.generate.generate.Tie as tie
 
 abbrev Inv-loop : tie.InvT-loop
-Inv-loop order on off barred kept₀ ons k count₀ last₀ kept count last =
+Inv-loop order swift on off barred kept₀ ons k count₀ last₀ kept count last =
     Generating order (numbersOf on) (asks off (rowsOf barred)) ons k kept₀ count (last .0) kept
 
 abbrev μ-loop : tie.MeasureT-loop
-μ-loop order on off barred kept₀ ons k count₀ last₀ kept count last = k - count
+μ-loop order swift on off barred kept₀ ons k count₀ last₀ kept count last = k - count
 
 loop-holds : tie.Need-loop-holds Inv-loop μ-loop
-loop-holds c = let s = c .before .before .before .before .before in begin _ _ _ _ _ _ (s .pre .0) (s .pre .1 .1 .1)
+loop-holds c = let s = c .before .before .before .before .before .before in begin _ _ _ _ _ _ (s .pre .1 .0) (s .pre .1 .1 .1 .1)
 
 add-next-from : tie.Need-add-next-from Inv-loop μ-loop
 add-next-from c = search needs
@@ -25,16 +25,19 @@ add-next-from c = search needs
 next-from-requires : tie.Need-next-from-requires Inv-loop μ-loop
 next-from-requires c κs =
     let l = c .before .before in
-    let s = l .before .before .before .before .before .before in (
-      still-asked _ _ _ _ _ _ (s .pre .0) (s .pre .1 .1 .1) _ _ _ (l .loop .inv),
-      has-words _ _ _ _ _ _ (s .pre .0) (s .pre .1 .1 .1) _ _ _ (l .loop .inv),
+    let s = l .before .before .before .before .before .before .before in (
+      s .pre .0,
+      (
+        still-asked _ _ _ _ _ _ (s .pre .1 .0) (s .pre .1 .1 .1 .1) _ _ _ (l .loop .inv),
+        has-words _ _ _ _ _ _ (s .pre .1 .0) (s .pre .1 .1 .1 .1) _ _ _ (l .loop .inv),
+      ),
     )
 
 enum-known-met : tie.Need-enum-known-met Inv-loop μ-loop
 enum-known-met c = search needs
 
 widen-requires : tie.Need-widen-requires Inv-loop μ-loop
-widen-requires c κs = c .before .before .before .before .before .before .before .before .before .before .before .before .pre .1 .0
+widen-requires c κs = c .before .before .before .before .before .before .before .before .before .before .before .before .before .pre .1 .1 .0
 
 add-put : tie.Need-add-put Inv-loop μ-loop
 add-put c = search needs
@@ -42,8 +45,8 @@ add-put c = search needs
 put-requires : tie.Need-put-requires Inv-loop μ-loop
 put-requires c κs =
     let l = c .before .before .before .before .before .before .before .before in
-    let s = l .before .before .before .before .before .before in
-    has-room _ _ _ _ _ _ (s .pre .0) (s .pre .1 .1 .1) _ _ _ (l .loop .inv) (c .before .before .before .before .before .before .before .loop-test .taken)
+    let s = l .before .before .before .before .before .before .before in
+    has-room _ _ _ _ _ _ (s .pre .1 .0) (s .pre .1 .1 .1 .1) _ _ _ (l .loop .inv) (c .before .before .before .before .before .before .before .loop-test .taken)
 
 add-count : tie.Need-add-count Inv-loop μ-loop
 add-count c = search needs
@@ -54,10 +57,10 @@ loop-less c = search needs
 loop-again : tie.Need-loop-again Inv-loop μ-loop
 loop-again c =
     let l = c .before .before .before .before .before .before .before .before .before .before .before in
-    let s = l .before .before .before .before .before .before in
+    let s = l .before .before .before .before .before .before .before in
     let w = c .before .before .before .before in
     let f = w .before .before .before .before in
-    one-more _ _ _ _ _ _ (s .pre .0) (s .pre .1 .1 .1) _ _ _ (l .loop .inv)
+    one-more _ _ _ _ _ _ (s .pre .1 .0) (s .pre .1 .1 .1 .1) _ _ _ (l .loop .inv)
     _ (f .next-from .ensures)
     _ (ap foundAs (w .before .before .met .given .1))
     (f .before .before .loop-test .taken)
@@ -70,14 +73,14 @@ enum-told c = search needs
 same-length : tie.Need-same-length Inv-loop μ-loop
 same-length c =
     let l = c .before .before .before .before .before in
-    let s = l .before .before .before .before .before .before in
-    same-size _ _ _ _ _ _ (s .pre .0) (s .pre .1 .1 .1) _ _ _ (l .loop .inv)
+    let s = l .before .before .before .before .before .before .before in
+    same-size _ _ _ _ _ _ (s .pre .1 .0) (s .pre .1 .1 .1 .1) _ _ _ (l .loop .inv)
 
 returns : tie.Need-returns Inv-loop μ-loop
 returns c =
     let l = c .before .before .before .before .before in
-    let s = l .before .before .before .before .before .before in
-    no-more _ _ _ _ _ _ (s .pre .0) (s .pre .1 .1 .1) _ _ _ (l .loop .inv)
+    let s = l .before .before .before .before .before .before .before in
+    no-more _ _ _ _ _ _ (s .pre .1 .0) (s .pre .1 .1 .1 .1) _ _ _ (l .loop .inv)
     _ (c .before .before .next-from .ensures) (ap foundAs (c .enum-told .given .1))
 
 add-next-from-2 : tie.Need-add-next-from-2 Inv-loop μ-loop
@@ -86,9 +89,12 @@ add-next-from-2 c = search needs
 next-from-requires-2 : tie.Need-next-from-requires-2 Inv-loop μ-loop
 next-from-requires-2 c κs =
     let l = c .before .before in
-    let s = l .before .before .before .before .before .before in (
-      still-asked _ _ _ _ _ _ (s .pre .0) (s .pre .1 .1 .1) _ _ _ (l .loop .inv),
-      has-words _ _ _ _ _ _ (s .pre .0) (s .pre .1 .1 .1) _ _ _ (l .loop .inv),
+    let s = l .before .before .before .before .before .before .before in (
+      s .pre .0,
+      (
+        still-asked _ _ _ _ _ _ (s .pre .1 .0) (s .pre .1 .1 .1 .1) _ _ _ (l .loop .inv),
+        has-words _ _ _ _ _ _ (s .pre .1 .0) (s .pre .1 .1 .1 .1) _ _ _ (l .loop .inv),
+      ),
     )
 
 is-none-requires : tie.Need-is-none-requires Inv-loop μ-loop
@@ -97,14 +103,14 @@ is-none-requires c κs = tt
 same-length-2 : tie.Need-same-length-2 Inv-loop μ-loop
 same-length-2 c =
     let l = c .before .before .before .before in
-    let s = l .before .before .before .before .before .before in
-    same-size _ _ _ _ _ _ (s .pre .0) (s .pre .1 .1 .1) _ _ _ (l .loop .inv)
+    let s = l .before .before .before .before .before .before .before in
+    same-size _ _ _ _ _ _ (s .pre .1 .0) (s .pre .1 .1 .1 .1) _ _ _ (l .loop .inv)
 
 returns-2 : tie.Need-returns-2 Inv-loop μ-loop
 returns-2 c =
     let l = c .before .before .before .before in
-    let s = l .before .before .before .before .before .before in
-    all-given _ _ _ _ _ _ (s .pre .0) (s .pre .1 .1 .1) _ _ _ (l .loop .inv)
+    let s = l .before .before .before .before .before .before .before in
+    all-given _ _ _ _ _ _ (s .pre .1 .0) (s .pre .1 .1 .1 .1) _ _ _ (l .loop .inv)
     _ (c .before .next-from2 .ensures)
     (c .before .before .before .loop-test .left)
     _ (c .is-none .ensures)

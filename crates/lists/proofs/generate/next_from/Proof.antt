@@ -12,11 +12,11 @@ mul-find-from : tie.Need-mul-find-from
 mul-find-from c = search needs
 
 slice-aggregate-find-from-2 : tie.Need-slice-aggregate-find-from-2
-slice-aggregate-find-from-2 c = sym (length-take-le _ _ (c .before .before .before .before .before .pre .1))
+slice-aggregate-find-from-2 c = sym (length-take-le _ _ (c .before .before .before .before .before .before .pre .1 .1))
 
 find-from-requires : tie.Need-find-from-requires
 unfolding wordsOf
-find-from-requires c κs = c .before .before .before .before .before .pre .0
+find-from-requires c κs = let q = c .before .before .before .before .before .before .pre in (q .1 .0, q .0)
 
 returns : tie.Need-returns
 unfolding wordsOf

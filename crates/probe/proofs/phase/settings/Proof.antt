@@ -27,8 +27,8 @@ next-from-requires : tie.Need-next-from-requires Inv-loop μ-loop
 next-from-requires c κs =
     let l = c .before .before in
     let s = l .before .before .before .before in (
-      still-asked _ _ _ _ _ _ (s .pre .0) (s .pre .1) _ _ _ (l .loop .inv),
-      has-words _ _ _ _ _ _ (s .pre .0) (s .pre .1) _ _ _ (l .loop .inv),
+      s .pre .0 .ordered,
+      (still-asked _ _ _ _ _ _ (s .pre .0) (s .pre .1) _ _ _ (l .loop .inv), has-words _ _ _ _ _ _ (s .pre .0) (s .pre .1) _ _ _ (l .loop .inv)),
     )
 
 enum-known-met : tie.Need-enum-known-met Inv-loop μ-loop

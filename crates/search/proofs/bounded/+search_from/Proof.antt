@@ -7,14 +7,15 @@ use borrow.Fn.Kinds.{In}
 use borrow.Fn.PlainCycle.{Measures, is, falls, and}
 use Rattle.rules.proofs.Logic.{either}
 use Rattle.search.specs.Question.{foundAs}
-use Rattle.search.proofs.Places.{reaches-a, reaches-b, is-variable, all-passed, passed-next, free-next}
-use Rattle.search.proofs.Liveness.{live-good, left, left-next}
+use Rattle.search.proofs.Places.{reaches-a, reaches-b, is-variable, all-passed}
+use Rattle.search.proofs.Liveness.{live-good, left-next}
+use Rattle.search.proofs.Swift.{ahead-next}
 use Rattle.search.proofs.Steps.{from-end, from-one, from-zero, from-above}
 use Rattle.search.proofs.bounded.search_from.Reads as search-from
 use Rattle.search.proofs.bounded.search_from.Kinds as search-from-kinds
 use Rattle.search.proofs.bounded.+search_from.Lts-search_from as search-from-lts
 use Rattle.search.proofs.cut.live.Reads as live-reads
-use Rattle.search.proofs.smallest.search.Reads as search-reads
+use Rattle.search.proofs.lower.first.Reads as first-reads
 use Rattle.search.proofs.step.at_one.Reads as at-one-reads
 use Rattle.search.proofs.step.at_zero.Reads as at-zero-reads
 use Rattle.search.proofs.step.var_at.Reads as var-at-reads
@@ -23,14 +24,14 @@ use Rattle.search.proofs.bounded.+search_from.{statement}
 use Rattle.search.proofs.bounded.+search_from.Tie.{close}
 
 -- the places left
-abbrev μ-search-from : Measures 8 search-from-kinds.ps ℕ
-μ-search-from κs a = length (a .0 .now .now) - a .1 .0 .0
+abbrev μ-search-from : Measures 10 search-from-kinds.ps ℕ
+μ-search-from κs a = length (a .0 .now .now) - a .1 .1 .0 .0
 
-abbrev search-from-at : ℕ → In 8 search-from-kinds.ps
-search-from-at t = and 8 search-from-kinds.ps (is 8 search-from-kinds.ps μ-search-from t) search-from.Pre
+abbrev search-from-at : ℕ → In 10 search-from-kinds.ps
+search-from-at t = and 10 search-from-kinds.ps (is 10 search-from-kinds.ps μ-search-from t) search-from.Pre
 
-abbrev search-from-below : ℕ → In 8 search-from-kinds.ps
-search-from-below t = and 8 search-from-kinds.ps (falls 8 search-from-kinds.ps _<_ μ-search-from t) search-from.Pre
+abbrev search-from-below : ℕ → In 10 search-from-kinds.ps
+search-from-below t = and 10 search-from-kinds.ps (falls 10 search-from-kinds.ps _<_ μ-search-from t) search-from.Pre
 
 -- what is known of the functions called
 abbrev known : ℕ → search-from-lts.Claims
@@ -47,8 +48,8 @@ known t = (
   live-reads.Learnt,
   search-from-below t,
   search-from.Post,
-  search-reads.Asked,
-  search-reads.Learnt,
+  first-reads.Asked,
+  first-reads.Learnt,
 )
 
 -- at the end of the order
@@ -58,7 +59,7 @@ search-from-returns t c =
     let q = s .pre .1 in
     let l = c .if1 .taken in
     let r = s .args .row in
-    from-end _ _ _ _ r l (live-good _ _ _ _ r (all-passed _ _ r l (q .1 .0)) (q .0 .reach-a) (q .0 .reach-b) (q .0 .cares) (q .1 .1 .1))
+    from-end _ _ _ _ r l (live-good _ _ _ _ r (all-passed _ _ r l (q .1 .1 .0 .passed)) (q .0 .reach-a) (q .0 .reach-b) (q .0 .cares) (q .1 .1 .1))
 
 search-from-var-at-requires : (t : ℕ) → search-from-lts.Need-var-at-requires (known t) (search-from-at t) search-from.Post
 search-from-var-at-requires t c κs = search needs
@@ -87,9 +88,8 @@ search-from-search-from-requires t c κs =
     let v = i .before .before .before in
     let s = v .before .before .before in
     let q = s .pre .1 in
-    let p = passed-next _ _ _ (v .before .if1 .left) (v .var-at .ensures) (s .args .row) (q .1 .0) true _ (i .before .at-one .ensures) in
-    let f = free-next _ _ _ (v .before .if1 .left) (v .var-at .ensures) (q .0) (s .args .row) (q .1 .1 .0) true _ (i .before .at-one .ensures) in
-    (search needs, (q .0, (p, (f, sym (c .before .live .ensures) ∙ c .if3 .taken))))
+    let n = ahead-next _ _ (q .0) (s .args .row) (q .1 .1 .0) _ (v .before .if1 .left) (v .var-at .ensures) true _ (i .before .at-one .ensures) in
+    (search needs, (q .0, (q .1 .0, (n, sym (c .before .live .ensures) ∙ c .if3 .taken))))
 
 search-from-returns-2 : (t : ℕ) → search-from-lts.Need-returns-2 (known t) (search-from-at t) search-from.Post
 search-from-returns-2 t c =
@@ -107,7 +107,7 @@ search-from-returns-3 t c =
     let q = s .pre .1 in
     from-one _ _ _ _ (s .args .row) _ (v .before .if1 .left) (v .var-at .ensures) (sym (i .is-one .ensures) ∙ c .before .before .if2 .taken)
     _ (i .before .at-one .ensures) _
-    (sym (left-next _ _ _ (q .0) _ _ _ (v .before .if1 .left) (v .var-at .ensures) (s .args .row) (q .1 .1 .0) true _ (i .before .at-one .ensures)
+    (sym (left-next _ _ _ (q .0) _ _ _ (v .before .if1 .left) (v .var-at .ensures) (s .args .row) (q .1 .1 .0 .free) true _ (i .before .at-one .ensures)
     (sym (c .before .live .ensures) ∙ c .if3 .left)))
 
 -- where it has 0: first 0, with the bound
@@ -120,9 +120,8 @@ search-from-search-from-requires-2 t c κs =
     let v = i .before .before .before in
     let s = v .before .before .before in
     let q = s .pre .1 in
-    let p = passed-next _ _ _ (v .before .if1 .left) (v .var-at .ensures) (s .args .row) (q .1 .0) false _ (i .before .before .at-zero .ensures) in
-    let f = free-next _ _ _ (v .before .if1 .left) (v .var-at .ensures) (q .0) (s .args .row) (q .1 .1 .0) false _ (i .before .before .at-zero .ensures) in
-    (search needs, (q .0, (p, (f, sym (c .before .live2 .ensures) ∙ c .if4 .taken))))
+    let n = ahead-next _ _ (q .0) (s .args .row) (q .1 .1 .0) _ (v .before .if1 .left) (v .var-at .ensures) false _ (i .before .before .at-zero .ensures) in
+    (search needs, (q .0, (q .1 .0, (n, sym (c .before .live2 .ensures) ∙ c .if4 .taken))))
 
 search-from-enum-known-f : (t : ℕ) → search-from-lts.Need-enum-known-f (known t) (search-from-at t) search-from.Post
 search-from-enum-known-f t c = search needs
@@ -140,22 +139,18 @@ search-from-enum-told : (t : ℕ) → search-from-lts.Need-enum-told (known t) (
 search-from-enum-told t c = search needs
 
 -- then 1, without it
-search-from-live-requires-3 : (t : ℕ) → search-from-lts.Need-live-requires-3 (known t) (search-from-at t) search-from.Post
-search-from-live-requires-3 t c κs =
-    let q = c .before .before .before .before .before .before .before .before .before .pre .1 .0 in (reaches-a q, reaches-b q)
-
-search-from-search-requires : (t : ℕ) → search-from-lts.Need-search-requires (known t) (search-from-at t) search-from.Post
-search-from-search-requires t c κs =
-    let i = c .before .before .before .before .before in
+search-from-first-requires : (t : ℕ) → search-from-lts.Need-first-requires (known t) (search-from-at t) search-from.Post
+search-from-first-requires t c κs =
+    let i = c .before .before .before in
     let v = i .before .before .before in
     let s = v .before .before .before in
     let q = s .pre .1 in
-    let p = passed-next _ _ _ (v .before .if1 .left) (v .var-at .ensures) (s .args .row) (q .1 .0) true _ (i .before .at-one .ensures) in
-    (q .0, (p, sym (c .before .live3 .ensures) ∙ c .if5 .taken))
+    let n = ahead-next _ _ (q .0) (s .args .row) (q .1 .1 .0) _ (v .before .if1 .left) (v .var-at .ensures) true _ (i .before .at-one .ensures) in
+    (q .0, (q .1 .0, n))
 
 search-from-returns-5 : (t : ℕ) → search-from-lts.Need-returns-5 (known t) (search-from-at t) search-from.Post
 search-from-returns-5 t c =
-    let j = c .before .before .before in
+    let j = c .before in
     let i = j .before .before .before in
     let v = i .before .before .before in
     let s = v .before .before .before in
@@ -164,24 +159,9 @@ search-from-returns-5 t c =
     _ (i .before .before .at-zero .ensures) _ (i .before .at-one .ensures) _
     (either (j .if4 .came)
     (λ w. sym (w .1 .ensures) ∙ ap foundAs (w .3 .given .1))
-    (λ w. left-next _ _ _ (q .0) _ _ _ (v .before .if1 .left) (v .var-at .ensures) (s .args .row) (q .1 .1 .0) false _ (i .before .before .at-zero .ensures)
+    (λ w. left-next _ _ _ (q .0) _ _ _ (v .before .if1 .left) (v .var-at .ensures) (s .args .row) (q .1 .1 .0 .free) false _ (i .before .before .at-zero .ensures)
     (sym (j .before .live2 .ensures) ∙ w .left)))
-    (c .search .ensures)
-
-search-from-returns-6 : (t : ℕ) → search-from-lts.Need-returns-6 (known t) (search-from-at t) search-from.Post
-search-from-returns-6 t c =
-    let j = c .before .before in
-    let i = j .before .before .before in
-    let v = i .before .before .before in
-    let s = v .before .before .before in
-    let q = s .pre .1 in
-    from-above _ _ _ _ (s .args .row) _ (v .before .if1 .left) (v .var-at .ensures) (sym (i .is-one .ensures) ∙ j .before .before .if2 .left)
-    _ (i .before .before .at-zero .ensures) _ (i .before .at-one .ensures) _
-    (either (j .if4 .came)
-    (λ w. sym (w .1 .ensures) ∙ ap foundAs (w .3 .given .1))
-    (λ w. left-next _ _ _ (q .0) _ _ _ (v .before .if1 .left) (v .var-at .ensures) (s .args .row) (q .1 .1 .0) false _ (i .before .before .at-zero .ensures)
-    (sym (j .before .live2 .ensures) ∙ w .left)))
-    (sym (left _ _ _ _ _ (sym (c .before .live3 .ensures) ∙ c .if5 .left)))
+    (c .first .ensures)
 
 pub +search-from-spec : {M : Type 1} → statement M
 +search-from-spec = close μ-search-from λ t. search-from-lts.spec (known t)
@@ -202,7 +182,5 @@ pub +search-from-spec : {M : Type 1} → statement M
     (search-from-enum-known-f t)
     (search-from-returns-4 t)
     (search-from-enum-told t)
-    (search-from-live-requires-3 t)
-    (search-from-search-requires t)
+    (search-from-first-requires t)
     (search-from-returns-5 t)
-    (search-from-returns-6 t)

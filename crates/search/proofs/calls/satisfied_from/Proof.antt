@@ -12,24 +12,24 @@ bar-requires c κs = let q = c .before .before .pre in (q .0, (q .1 .1, few-clau
 mul-end : tie.Need-mul-end
 mul-end c = let k = c .before in let l = few-barred _ _ (k .before .before .before .pre .1 .1) _ (k .bar .ensures .1) in search needs
 
-slice-aggregate-find-from : tie.Need-slice-aggregate-find-from
-slice-aggregate-find-from c = search needs
+slice-aggregate-seek-from : tie.Need-slice-aggregate-seek-from
+slice-aggregate-seek-from c = search needs
 
-slice-aggregate-find-from-2 : tie.Need-slice-aggregate-find-from-2
-slice-aggregate-find-from-2 c = search needs
+slice-aggregate-seek-from-2 : tie.Need-slice-aggregate-seek-from-2
+slice-aggregate-seek-from-2 c = search needs
 
 array-share-prefix-rows : tie.Need-array-share-prefix-rows
 array-share-prefix-rows c =
     let k = c .before .before .before in
     barred-fit _ _ (k .before .before .before .pre .1 .1) _ _ _ (search needs) (k .bar .ensures .0) (k .bar .ensures .1)
 
-slice-aggregate-find-from-3 : tie.Need-slice-aggregate-find-from-3
-slice-aggregate-find-from-3 c =
+slice-aggregate-seek-from-3 : tie.Need-slice-aggregate-seek-from-3
+slice-aggregate-seek-from-3 c =
     let k = c .before .before .before .before in
     barred-taken _ _ (k .before .before .before .pre .1 .1) _ _ _ (search needs) (k .bar .ensures .0) (k .bar .ensures .1)
 
-find-from-requires : tie.Need-find-from-requires
-find-from-requires c κs =
+seek-from-requires : tie.Need-seek-from-requires
+seek-from-requires c κs =
     let k = c .before .before .before .before in
     let q = k .before .before .before .pre in
     asked _ _ (q .1 .1) _ _ _ (search needs) (k .bar .ensures .0) (k .bar .ensures .1) _ (q .0) (q .1 .0)
@@ -37,7 +37,7 @@ find-from-requires c κs =
 returns : tie.Need-returns
 returns c =
     let k = c .before .before .before .before .before in
-    outside-barred _ _ (k .before .before .before .pre .1 .1) _ _ _ (search needs) (k .bar .ensures .0) (k .bar .ensures .1) _ _ _ (c .find-from .ensures)
+    outside-barred _ _ (k .before .before .before .pre .1 .1) _ _ _ (search needs) (k .bar .ensures .0) (k .bar .ensures .1) _ _ _ (c .seek-from .ensures)
 
 pub satisfied-from-spec : {M : Type 1} → statement M
 satisfied-from-spec =
@@ -46,9 +46,9 @@ satisfied-from-spec =
     slice-aggregate-bar
     bar-requires
     mul-end
-    slice-aggregate-find-from
-    slice-aggregate-find-from-2
+    slice-aggregate-seek-from
+    slice-aggregate-seek-from-2
     array-share-prefix-rows
-    slice-aggregate-find-from-3
-    find-from-requires
+    slice-aggregate-seek-from-3
+    seek-from-requires
     returns)

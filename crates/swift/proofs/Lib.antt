@@ -1,0 +1,2 @@
+-- What copying and exchanging neighbours do to an order.
+pub mod Orders

@@ -33,9 +33,6 @@ unfolding caresWithin
 cares-of-rows n [] w = refl
 cares-of-rows n (r ∷ rows) w = and-join (and-both (fits n (r .care)) (holds r (r .value)) (w .0) .0) (cares-of-rows n rows (w .1))
 
-pub is-dashes : (r : Row) → (r .care ≡ 0) × (r .value ≡ 0) → r ≡ dashes
-is-dashes r e = λ i. record { care = e .0 i; value = e .1 i }
-
 module _ (order on off both : List ℕ) (offs : ℕ) (old : List ℕ) (ons : ℕ) (lent : Lent order on off both offs old ons) where
   abbrev onAt : ℕ → Bool
   onAt = asks on (firstRows ons old)

@@ -39,7 +39,7 @@ fn prune_behind(order: &[u32], none: &[u8], rows: &mut [u32], ons: usize, count:
     prune(order, none, &mut rows[2 * ons..], 0, count)
 }
 
-// The same, with a swift order to ask in.
+// The list of what is lent, by questions in the swift order.
 fn build_by(
     order: &[u32],
     swift: &[u32],

@@ -23,7 +23,7 @@ pub enum Part {
     Refused(Refusal),
 }
 
-// The same, with a swift order to ask in.
+// The first generated rows of what is lent, by questions in the swift order.
 fn part_by(
     order: &[u32],
     swift: &[u32],

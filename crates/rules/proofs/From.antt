@@ -42,21 +42,6 @@ free-rest b v vs r d f i h =
     other-care b v r i (fails (λ q. clash (subst (λ (k : ℕ). has k vs ≡ true) (sym (eqb-true (v - 1) i q)) h) d))
     ∙ f i (or-right (eqb (v - 1) i) h)
 
--- a row may be left here too: over any test `live` of a row, as for the search itself
-module _ (P : ℕ → Bool) (live : Row → Bool) (leaf : (r : Row) → P (r .value) ≡ true → live r ≡ true)
-    (less0 : (v : ℕ) (r : Row) → fixes r v ≡ false → live (atZero v r) ≡ true → live r ≡ true)
-    (less1 : (v : ℕ) (r : Row) → fixes r v ≡ false → live (atOne v r) ≡ true → live r ≡ true) where
-  pub cut-from : (start : ℕ) (vs : List ℕ) (r : Row) → Distinct vs → Free vs r → live r ≡ false → smallestFrom P start vs r ≡ none
-  unfolding smallestFrom
-  cut-from start [] r d f h = rw (fails {b = P (r .value)} (λ p. clash (leaf r p) h))
-  cut-from start (v ∷ vs) r d f h =
-      let g = free-first v vs r f in
-      let low : live (atZero v r) ≡ false = fails (λ p. clash (less0 v r g p) h) in
-      let high : live (atOne v r) ≡ false = fails (λ p. clash (less1 v r g p) h) in
-      test (isOne v start)
-      (λ e. rw (e, cut-from start vs (atOne v r) (d .1) (free-rest true v vs r (d .0) f) high))
-      (λ e. rw (e, cut-from start vs (atZero v r) (d .1) (free-rest false v vs r (d .0) f) low, cut P live leaf less0 less1 vs (atOne v r) high))
-
 -- the bound at the place of a free variable v, by the value that is tried there
 module _ (P : ℕ → Bool) (start v : ℕ) (vs : List ℕ) (r : Row) (u : Under r) (f : fixes r v ≡ false) where
   bound : (b c : Bool) → isOne v start ≡ c → (t : ℕ) → Reach vs (fixedAt b v r) t

@@ -6,4 +6,6 @@ pub mod Places
 pub mod Steps
 pub mod Skipping
 pub mod Swift
+pub mod Lowering
+pub mod Following
 pub mod Queries

@@ -4,23 +4,19 @@ use mathlib.Core.Path.{_≡_, sym, _∙_}
 use mathlib.Core.Bool.{Bool, true, false, not, _&&_}
 use mathlib.Core.List.{List}
 use mathlib.Core.Option.{none}
-use Prim.Native.Nat.{ℕ, _+_, _-_, _≤_, _<_}
+use Prim.Native.Nat.{ℕ, _-_, _≤_, _<_}
 use native.Mathlib.Omega.{arith}
 use lib.IntN.{ℤ}
-use lib.ListN.{length, getD, drop}
 use Rattle.rules.specs.declared.Row.{Row}
 use Rattle.rules.specs.Words.{fixes, atZero, atOne, inSome}
 use Rattle.rules.specs.Sheets.{everyClause, satisfies, inReach}
 use Rattle.rules.specs.Search.{smallest}
 use Rattle.rules.proofs.Bits.{bit}
-use Rattle.rules.proofs.Fixed.{fixedAt}
 use Rattle.rules.proofs.Cut.{cut}
-use Rattle.rules.proofs.From.{smallestFrom, Free, cut-from}
 use Rattle.rules.proofs.Logic.{and-both, and-join, not-yes, yes-not, fails, clash}
 use Rattle.sheets.specs.Open.{isOpen}
 use Rattle.sheets.proofs.Openness.{satisfied-open, open-atZero, open-atOne, open-satisfied}
-use Rattle.search.specs.Question.{good, coversSome, live, caresWithin, Asked}
-use Rattle.search.proofs.Places.{distinct-left, free-next}
+use Rattle.search.specs.Question.{good, coversSome, live, caresWithin}
 use Rattle.search.proofs.Covers.{some-atZero, some-atOne, some-held, held-some}
 
 -- the tests that make up the one
@@ -83,13 +79,3 @@ module _ (a b : List ℤ) (rows : List Row) where
   -- in a row that is not live nothing is good
   pub left : (vs : List ℕ) (r : Row) → live a b rows r ≡ false → smallest (good a b rows) vs r ≡ none
   left = cut (good a b rows) (live a b rows) good-live live-atZero live-atOne
-
-  pub left-from : {order : List ℕ} → Asked order a b rows → (start place : ℕ) (r : Row) → Free (drop place order) r → live a b rows r ≡ false
-      → smallestFrom (good a b rows) start (drop place order) r ≡ none
-  left-from {order} q start place r f h =
-      cut-from (good a b rows) (live a b rows) good-live live-atZero live-atOne start (drop place order) r (distinct-left q place) f h
-
-  pub left-next : {order : List ℕ} → Asked order a b rows → (start place v : ℕ) → place < length order → v ≡ getD order place 0
-      → (r : Row) → Free (drop place order) r → (c : Bool) (next : Row) → next ≡ fixedAt c v r → live a b rows next ≡ false
-      → smallestFrom (good a b rows) start (drop (place + 1) order) next ≡ none
-  left-next {order} q start place v l e r f c next d h = left-from q start (place + 1) next (free-next order place v l e q r f c next d) h

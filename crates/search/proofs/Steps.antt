@@ -48,9 +48,9 @@ module _ (P : ℕ → Bool) (order : List ℕ) (place : ℕ) (r : Row) where
 
 -- the same, from a start on
 module _ (P : ℕ → Bool) (start : ℕ) (order : List ℕ) (place : ℕ) (r : Row) where
-  pub from-end : length order ≤ place → P (r .value) ≡ true → some (r .value) ≡ smallestFrom P start (drop place order) r
-  unfolding smallestFrom
-  from-end h p = rw (drop-of-length-le order h, p)
+  pub from-end : length order ≤ place → smallestFrom P start (drop place order) r ≡ smallest P (drop place order) r
+  unfolding smallest smallestFrom
+  from-end h = rw (drop-of-length-le order h)
 
   module _ (v : ℕ) (h : place < length order) (e : v ≡ getD order place 0) where
     -- where the start has 1, what is found with 1
@@ -61,10 +61,9 @@ module _ (P : ℕ → Bool) (start : ℕ) (order : List ℕ) (place : ℕ) (r : 
 
     -- where it has 0, what is found with 0 is the answer; if nothing is, what is found with 1 and no bound
     module _ (b : isOne v start ≡ false) (low : Row) (low-is : low ≡ atZero v r) where
-      pub from-zero : (found : Found) (s : Setting) → foundAs found ≡ smallestFrom P start (drop (place + 1) order) low → found ≡ At s
-          → some (s .0) ≡ smallestFrom P start (drop place order) r
+      pub from-zero : (t : ℕ) → some t ≡ smallestFrom P start (drop (place + 1) order) low → some t ≡ smallestFrom P start (drop place order) r
       unfolding smallestFrom
-      from-zero found s z q = rw (first-left order place v h e, b, ← low-is, ← z, q)
+      from-zero t z = rw (first-left order place v h e, b, ← low-is, ← z)
 
       pub from-above : (high : Row) → high ≡ atOne v r → (o : Option ℕ) → smallestFrom P start (drop (place + 1) order) low ≡ none
           → o ≡ smallest P (drop (place + 1) order) high → o ≡ smallestFrom P start (drop place order) r

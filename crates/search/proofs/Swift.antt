@@ -1,30 +1,26 @@
 -- Another order of the same variables: the same questions may be asked in it, and in a row it finds nothing exactly if the order finds
 -- nothing.
-use mathlib.Core.Path.{_≡_, sym, ap, subst, _∙_}
+use mathlib.Core.Path.{_≡_, sym, subst, _∙_}
 use mathlib.Core.Bool.{Bool, true, false}
 use mathlib.Core.List.{List, [], _∷_}
 use mathlib.Core.Option.{none, some}
-use Prim.Native.Nat.{ℕ, zero, suc, _+_, _-_, _^_, _≤_, _<_}
+use Prim.Native.Nat.{ℕ, zero, suc, _-_, _^_, _≤_, _<_}
 use native.Mathlib.Omega.{arith}
-use lib.Dec.{eqb, ltb}
+use lib.Dec.{eqb}
 use lib.IntN.{ℤ}
-use lib.ListN.{length, getD, drop}
-use borrow.Author.Tests.{ltb-true, ltb-false}
+use lib.ListN.{length, drop}
+use borrow.Author.Tests.{ltb-true}
 use Rattle.rules.specs.declared.Row.{Row}
-use Rattle.rules.specs.Words.{maxInputs, isOrder, isOne, fits, holds, isRow, dashes}
+use Rattle.rules.specs.Words.{maxInputs, isOrder, fits, holds, isRow}
 use Rattle.rules.specs.Sheets.{inReach}
 use Rattle.rules.specs.Search.{smallest}
-use Rattle.rules.proofs.Logic.{test, clash, fails, option, and-both, or-right}
-use Rattle.rules.proofs.Bits.{bit, bit-high, bit-below, bit-ext}
+use Rattle.rules.proofs.Logic.{clash, fails, option, and-both, or-right}
+use Rattle.rules.proofs.Bits.{bit, bit-high, bit-below}
 use Rattle.rules.proofs.Orders.{has, IsOrder, is-order}
-use Rattle.rules.proofs.Fixed.{Under, row-under, held-value, fixedAt, fixed-holds}
-use Rattle.rules.proofs.Rows.{dashes-row, atZero-row, atOne-row}
-use Rattle.rules.proofs.From.{free-first}
+use Rattle.rules.proofs.Fixed.{row-under}
 use Rattle.rules.proofs.Reach.{sound, reach-held, reach-kept}
 use Rattle.rules.proofs.Smallest.{smallest-passes, smallest-held, smallest-below, smallest-none}
-use Rattle.search.specs.Question.{Asked, Ahead, Met, caresWithin}
-use Rattle.search.proofs.Places.{first-left, is-variable, all-passed, none-passed, passed-next, free-next}
-use Rattle.search.proofs.Steps.{at-end, is-dashes, dashes-free}
+use Rattle.search.specs.Question.{Asked, Met, caresWithin}
 
 has-drop : (k : ℕ) (vs : List ℕ) (i : ℕ) → has i (drop k vs) ≡ true → has i vs ≡ true
 unfolding has
@@ -33,7 +29,7 @@ has-drop (suc k) [] i h = h
 has-drop (suc k) (v ∷ vs) i h = or-right (eqb (v - 1) i) (has-drop k vs i h)
 
 -- a row of n inputs has no ones from n up
-row-high : (n : ℕ) (r : Row) → isRow n r ≡ true → (i : ℕ) → n ≤ i → bit i (r .value) ≡ false
+pub row-high : (n : ℕ) (r : Row) → isRow n r ≡ true → (i : ℕ) → n ≤ i → bit i (r .value) ≡ false
 row-high n r f i l = row-under n r f i (bit-high n i (r .care) (ltb-true (r .care) (2 ^ n) (and-both (fits n (r .care)) (holds r (r .value)) f .0)) l)
 
 module _ {order : List ℕ} {a b : List ℤ} {rows : List Row} (q : Asked order a b rows) (swift : List ℕ) (o : isOrder (length order) swift ≡ true) where
@@ -74,49 +70,3 @@ module _ {order : List ℕ} {a b : List ℤ} {rows : List Row} (q : Asked order 
         let low : t < 2 ^ length order =
         bit-below (length order) t (λ i l. reach-kept (drop place order) r t i (s .1) (left-below place i l) ∙ row-high (length order) r f i l) in
         clash (s .0) (smallest-none (length order) swift is-swift P r f e t low (reach-held (drop place order) r t (row-under (length order) r f) (s .1))))
-
--- the row at the places passed, step by step
-module _ (order : List ℕ) (place : ℕ) {a b : List ℤ} {rows : List Row} (q : Asked order a b rows) (r : Row) (h : Ahead order place r) where
-  -- after the last place, the setting met is the row's own
-  pub met-end : (P : ℕ → Bool) → length order ≤ place → (t : ℕ) → Met P (length order) r t → some t ≡ smallest P (drop place order) r
-  met-end P l t m =
-      let n = length order in
-      let e : r .value ≡ t =
-      bit-ext (λ i. test (ltb i n)
-      (λ p. sym (held-value r t (m .held) i (all-passed order place r l (h .passed) i (ltb-true i n p))))
-      (λ p. let g : n ≤ i = ltb-false i n p in row-high n r (h .formed) i g ∙ sym (bit-high n i t (m .below) g))) in
-      sym (ap some e) ∙ at-end P order place r l (ap P e ∙ m .passed)
-
-  module _ (v : ℕ) (k : place < length order) (e : v ≡ getD order place 0) where
-    pub is-free : isOne v (r .care) ≡ false
-    is-free = free-first v (drop (place + 1) order) r (subst (λ (vs : List ℕ). (i : ℕ) → has i vs ≡ true → bit i (r .care) ≡ false) (first-left order place v k e) (h .free))
-
-    is-named : (1 ≤ v) × (v ≤ length order)
-    is-named = let m = is-order (length order) order (q .ordered) .named place k in (omega (arith, e, m .0), omega (arith, e, m .1))
-
-    fixed-row : (c : Bool) → isRow (length order) (fixedAt c v r) ≡ true
-    fixed-row true = atOne-row (length order) v r (is-named .0) (is-named .1) (h .formed)
-    fixed-row false = atZero-row (length order) v r (is-named .0) (is-named .1) (h .formed)
-
-    module _ (c : Bool) (next : Row) (d : next ≡ fixedAt c v r) where
-      pub ahead-next : Ahead order (place + 1) next
-      ahead-next = record {
-        formed = ap (isRow (length order)) d ∙ fixed-row c;
-        passed = passed-next order place v k e r (h .passed) c next d;
-        free = free-next order place v k e q r (h .free) c next d;
-      }
-
-      pub met-next : (P : ℕ → Bool) (t : ℕ) → isOne v t ≡ c → Met P (length order) r t → Met P (length order) next t
-      met-next P t s m = record {
-        passed = m .passed;
-        held = ap (λ (x : Row). holds x t) d ∙ fixed-holds c v r (row-under (length order) r (h .formed)) is-free t (m .held) s;
-        below = m .below;
-      }
-
--- before the first place
-pub ahead-first : {order : List ℕ} {a b : List ℤ} {rows : List Row} → Asked order a b rows → (r : Row) → (r .care ≡ 0) × (r .value ≡ 0) → Ahead order 0 r
-ahead-first {order} q r d = record {
-  formed = ap (isRow (length order)) (is-dashes r d) ∙ dashes-row (length order);
-  passed = none-passed q r;
-  free = dashes-free order r d;
-}

@@ -1,18 +1,20 @@
 -- The question: the smallest setting of a row that satisfies two sheets and lies in none of the kept rows.
 use mathlib.Core.Path.{_≡_}
-use mathlib.Core.Bool.{Bool, true, false, not, _&&_, _||_}
+use mathlib.Core.Bool.{Bool, true, false, not, cond, _&&_, _||_}
 use mathlib.Core.List.{List, [], _∷_}
 use mathlib.Core.Option.{Option, none, some}
-use Prim.Native.Nat.{ℕ, _^_, _<_, _≤_}
+use Prim.Native.Nat.{ℕ, zero, suc, _+_, _^_, _<_, _≤_}
 use lib.Bits.{bitAnd}
 use lib.Dec.{eqb}
 use lib.IntN.{ℤ}
 use lib.ListN.{length, getD, drop}
 use Rattle.rules.specs.declared.Row.{Row}
-use Rattle.rules.specs.Words.{maxInputs, isOrder, fits, isOne, holds, isRow, inSome}
+use Rattle.rules.specs.Words.{maxInputs, isOrder, fits, isOne, holds, isRow, dashes, atOne, inSome}
 use Rattle.rules.specs.Sheets.{satisfies, everyClause, inReach}
+use Rattle.rules.specs.Search.{smallest}
 use Rattle.rules.proofs.Bits.{bit}
 use Rattle.rules.proofs.Orders.{has}
+use Rattle.rules.proofs.Fixed.{fixedAt}
 use Rattle.rules.proofs.From.{Free}
 use Rattle.sheets.specs.Open.{isOpen}
 use Rattle.search.specs.declared.Found.{Found}
@@ -73,3 +75,19 @@ pub record Met (passes : ℕ → Bool) (n : ℕ) (r : Row) (s : ℕ) : Type 0 wh
   pub passed : passes s ≡ true
   pub held : holds r s ≡ true
   pub below : s < 2 ^ n
+
+-- one place more is fixed, in a row that still holds a setting that passes, and the smallest such setting of it is the row's
+pub record Lowers (passes : ℕ → Bool) (order : List ℕ) (place : ℕ) (r next : Row) (s : ℕ) : Type 0 where
+  pub ahead : Ahead order (place + 1) next
+  pub met : Met passes (length order) next s
+  pub same : (t : ℕ) → some t ≡ smallest passes (drop (place + 1) order) next → some t ≡ smallest passes (drop place order) r
+
+-- the row that fixes the variables at the first k places at the start's values
+unfoldable pub followed : List ℕ → ℕ → ℕ → Row
+followed order start zero = dashes
+followed order start (suc k) = fixedAt (isOne (getD order k 0) start) (getD order k 0) (followed order start k)
+
+-- the smallest setting of the row that passes and has 1 at the place where the start has 0
+abbrev pub aboveAt : (ℕ → Bool) → List ℕ → ℕ → ℕ → Row → Option ℕ
+aboveAt passes order start place r =
+    cond (isOne (getD order place 0) start) none (smallest passes (drop (place + 1) order) (atOne (getD order place 0) r))

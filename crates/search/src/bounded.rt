@@ -1,19 +1,18 @@
-// The search from a start on: down the path of the start's own values each later variable is bounded; a setting that has 1 where
-// the start has 0 is not below it, whatever follows.
+// The search from a start on: a setting not below the start is the start, or follows it up to a place where it has 1 and the start
+// has 0. The longer it follows, the smaller it is.
 ghost use mathlib.Core.Path.{_≡_};
 ghost use mathlib.Core.Bool.{true};
-ghost use lib.ListN.{length, drop};
-ghost use Rattle.rules.specs.Words.{isOrder, dashes};
+ghost use Prim.Native.Nat.{_≤_, _<_};
+ghost use lib.ListN.{length};
+ghost use Rattle.rules.specs.Words.{maxInputs, isOrder, dashes};
 ghost use Rattle.rules.specs.Search.{smallest, notBelow};
-ghost use Rattle.rules.proofs.From.{smallestFrom};
 ghost use Rattle.sheets.specs.Numbers.{numbersOf};
 ghost use Rattle.sheets.specs.Barred.{rowsOf};
-ghost use Rattle.search.specs.Question.{good, live, foundAs, Asked, Ahead};
+ghost use Rattle.search.specs.Question.{good, foundAs, Asked, Ahead, followed, aboveAt};
 use crate::Found;
-use crate::cut::live;
 use crate::lower::first;
 use crate::step::at_one;
-use crate::step::at_zero;
+use crate::step::at_value;
 use crate::step::var_at;
 use rules::Place;
 use rules::Row;
@@ -21,50 +20,51 @@ use rules::Setting;
 use sheets::is_one;
 use swift::swift_order;
 
-// The smallest good setting, not below the start from the place on, of a live row that fixes the variables before the place alone.
-pub fn search_from(
-    order: &&[u32],
-    swift: &&[u32],
+// The row that fixes every variable at the start's value.
+fn follow(order: &[u32], start: Setting) -> Row
+    requires { ⌜ isOrder (length (now order)) (now order) ≡ true ⌝ }
+    requires { ⌜ length (now order) ≤ maxInputs ⌝ }
+    ensures { λ r. ⌜ r ≡ followed (now (order .entry)) (start .0) (length (now (order .entry))) ⌝ }
+{
+    let from = start.0;
+    let mut row = Row::dashes();
+    let mut at = 0;
+    while at < order.len() {
+        let v = var_at(order, Place(at));
+        row = at_value(row, v, from);
+        at += 1;
+    }
+    row
+}
+
+// The smallest good setting of a row that fixes the variables before the place alone, with 1 at the place where the start has 0.
+fn above(
+    order: &[u32],
+    swift: &[u32],
     place: Place,
     row: Row,
     start: Setting,
-    a: &&[u8],
-    b: &&[u8],
-    rows: &&[u32],
+    a: &[u8],
+    b: &[u8],
+    rows: &[u32],
 ) -> Found
-    requires { ⌜ Asked (now (now order)) (numbersOf (now (now a))) (numbersOf (now (now b))) (rowsOf (now (now rows))) ⌝ }
-    requires { ⌜ isOrder (length (now (now order))) (now (now swift)) ≡ true ⌝ }
-    requires { ⌜ Ahead (now (now order)) (place .0) row ⌝ }
-    requires { ⌜ live (numbersOf (now (now a))) (numbersOf (now (now b))) (rowsOf (now (now rows))) row ≡ true ⌝ }
-    ensures { λ r. ⌜ foundAs r ≡ smallestFrom (good (numbersOf (now (now (a .entry)))) (numbersOf (now (now (b .entry)))) (rowsOf (now (now (rows .entry))))) (start .0) (drop (place .0) (now (now (order .entry)))) row ⌝ }
+    requires { ⌜ Asked (now order) (numbersOf (now a)) (numbersOf (now b)) (rowsOf (now rows)) ⌝ }
+    requires { ⌜ isOrder (length (now order)) (now swift) ≡ true ⌝ }
+    requires { ⌜ Ahead (now order) (place .0) row ⌝ }
+    requires { ⌜ place .0 < length (now order) ⌝ }
+    ensures { λ r. ⌜ foundAs r ≡ aboveAt (good (numbersOf (now (a .entry))) (numbersOf (now (b .entry))) (rowsOf (now (rows .entry)))) (now (order .entry)) (start .0) (place .0) row ⌝ }
 {
-    let at = place.0;
-    let value = row.value;
     let from = start.0;
-    let o = *order;
-    if o.len() <= at {
-        return Found::At(Setting(value));
-    }
-    let v = var_at(o, place);
-    let next = at + 1;
-    let low = at_zero(row, v);
-    let high = at_one(row, v);
+    let at = place.0;
+    let v = var_at(order, place);
     if is_one(v, from) {
-        if live(a, b, rows, high) {
-            return search_from(order, swift, Place(next), high, start, a, b, rows);
-        }
         return Found::Nothing;
     }
-    if live(a, b, rows, low) {
-        let f = search_from(order, swift, Place(next), low, start, a, b, rows);
-        if let Found::At(s) = f {
-            return Found::At(s);
-        }
-    }
-    first(order, swift, Place(next), high, a, b, rows)
+    let high = at_one(row, v);
+    first(order, swift, Place(at + 1), high, a, b, rows)
 }
 
-// The smallest good setting that is not below the start.
+// The smallest good setting that is not below the start: the start, or the one above it that follows it longest.
 pub fn find_from(
     order: &[u32],
     swift: &[u32],
@@ -77,9 +77,19 @@ pub fn find_from(
     requires { ⌜ isOrder (length (now order)) (now swift) ≡ true ⌝ }
     ensures { λ r. ⌜ foundAs r ≡ smallest (notBelow (now (order .entry)) (start .0) (good (numbersOf (now (a .entry))) (numbersOf (now (b .entry))) (rowsOf (now (rows .entry))))) (now (order .entry)) dashes ⌝ }
 {
-    let row = Row::dashes();
-    if live(&a, &b, &rows, row) {
-        return search_from(&order, &swift, Place(0), row, start, &a, &b, &rows);
+    let mut at = order.len();
+    let mut row = follow(order, start);
+    let own = first(order, swift, Place(at), row, a, b, rows);
+    if let Found::At(s) = own {
+        return Found::At(s);
+    }
+    while 0 < at {
+        at -= 1;
+        row = row.without(var_at(order, Place(at)));
+        let f = above(order, swift, Place(at), row, start, a, b, rows);
+        if let Found::At(s) = f {
+            return Found::At(s);
+        }
     }
     Found::Nothing
 }

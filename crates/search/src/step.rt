@@ -3,7 +3,8 @@ ghost use mathlib.Core.Path.{_≡_};
 ghost use mathlib.Core.Bool.{true};
 ghost use Prim.Native.Nat.{_≤_, _<_};
 ghost use lib.ListN.{length, getD};
-ghost use Rattle.rules.specs.Words.{maxInputs, isOrder, atZero, atOne};
+ghost use Rattle.rules.specs.Words.{maxInputs, isOrder, isOne, atZero, atOne};
+ghost use Rattle.rules.proofs.Fixed.{fixedAt};
 ghost use Rattle.search.specs.Question.{Skips};
 use rules::Place;
 use rules::Row;
@@ -63,4 +64,15 @@ pub fn at_one(row: Row, v: Var) -> Row
         care: care | bit,
         value: value | bit,
     }
+}
+
+// The row with the variable fixed at its value in the word.
+pub fn at_value(row: Row, v: Var, word: u32) -> Row
+    requires { ⌜ (1 ≤ v .0) × (v .0 ≤ maxInputs) ⌝ }
+    ensures { λ r. ⌜ r ≡ fixedAt (isOne (v .0) word) (v .0) row ⌝ }
+{
+    if is_one(v, word) {
+        return at_one(row, v);
+    }
+    at_zero(row, v)
 }

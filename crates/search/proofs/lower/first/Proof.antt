@@ -7,7 +7,7 @@ use Rattle.search.proofs.lower.first.Tie as tie
 
 find-requires : tie.Need-find-requires
 find-requires c κs =
-    let q = c .before .before .before .before .pre in
+    let q = c .before .before .before .before .before .pre in
     asked-swift (q .0) _ (q .1 .0)
 
 enum-known-f : tie.Need-enum-known-f
@@ -16,7 +16,7 @@ enum-known-f c = search needs
 lower-requires : tie.Need-lower-requires
 lower-requires c κs =
     let f = c .before .before .before in
-    let s = f .before .before .before .before .before in
+    let s = f .before .before .before .before .before .before in
     let q = s .pre in
     let m = swift-met (q .0) _ (q .1 .0) _ (s .args .row) (q .1 .1 .formed) _ (sym (f .find .ensures) ∙ ap foundAs (c .before .f .given .1)) in
     (q .0, (q .1 .0, (q .1 .1, m)))
@@ -30,7 +30,7 @@ enum-told c = search needs
 returns-2 : tie.Need-returns-2
 returns-2 c =
     let f = c .before .before in
-    let s = f .before .before .before .before .before in
+    let s = f .before .before .before .before .before .before in
     let q = s .pre in
     sym (swift-none (q .0) _ (q .1 .0) _ (s .args .row) (q .1 .1 .formed) (s .args .place .0) (sym (f .find .ensures) ∙ ap foundAs (c .enum-told .given .1)))
 

@@ -10,8 +10,8 @@ use Rattle.rules.specs.Answers.{over}
 use Rattle.rules.specs.Calls.{bytesOf, cares, values}
 use Rattle.sheets.specs.Barred.{rowsOf}
 use Rattle.sheets.proofs.Pairs.{over-length}
-use Rattle.lists.specs.Blank.{isBlank, solid}
-use Rattle.lists.proofs.Taking.{Taking, none-taken, taken-within, blank-passed, row-taken, all-taken}
+use Rattle.method.specs.Blank.{isBlank, solid}
+use Rattle.method.proofs.Taking.{Taking, none-taken, taken-within, blank-passed, row-taken, all-taken}
 use Rattle.pla.specs.Put.{put}
 use Rattle.host.proofs.Bytes.{bytes-length, over-word}
 

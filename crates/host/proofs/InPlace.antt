@@ -19,10 +19,10 @@ use Rattle.sheets.specs.Barred.{rowsOf}
 use Rattle.sheets.specs.Numbers.{numbersOf}
 use Rattle.sheets.proofs.Bytes.{words-length}
 use Rattle.search.specs.Question.{good, Asked}
-use Rattle.lists.specs.declared.build.Built.{Built}
-use Rattle.lists.specs.Blank.{solid}
-use Rattle.lists.specs.Lent.{asks, firstRows}
-use Rattle.lists.specs.Built.{Lent, builtReply, Stands}
+use Rattle.method.specs.Blank.{solid}
+use Rattle.method.specs.Lent.{asks, firstRows}
+use Rattle.building.specs.declared.build.Built.{Built}
+use Rattle.building.specs.Built.{Lent, builtReply, Stands}
 use Rattle.host.specs.Formed.{formedWhole}
 use Rattle.host.proofs.Replies.{answered-given, refused-keeps}
 

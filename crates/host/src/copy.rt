@@ -7,9 +7,9 @@ ghost use Rattle.rules.specs.Answers.{over};
 ghost use Rattle.rules.specs.Calls.{bytesOf, cares, values};
 ghost use Rattle.sheets.specs.Barred.{rowsOf};
 ghost use Rattle.pla.specs.Put.{put};
-ghost use Rattle.lists.specs.Blank.{solid};
+ghost use Rattle.method.specs.Blank.{solid};
 use crate::words::put_word;
-use lists::solid::is_blank;
+use method::solid::is_blank;
 use rules::Row;
 
 // Writes the row's two words as the k-th four bytes of each run.

@@ -22,10 +22,10 @@ use Rattle.sheets.proofs.Bars.{barred-length, barred-rows}
 use Rattle.sheets.proofs.Clauses.{form-reach}
 use Rattle.sheets.proofs.Pairs.{pairs-append, pairs-length, rows-pairs, over-length}
 use Rattle.search.specs.Question.{caresWithin, Asked}
-use Rattle.lists.specs.Lent.{firstRows}
-use Rattle.lists.specs.Built.{Lent}
-use Rattle.lists.proofs.Kept.{first-rows}
-use Rattle.lists.proofs.Judges.{over-rows}
+use Rattle.method.specs.Lent.{firstRows}
+use Rattle.method.proofs.Kept.{first-rows}
+use Rattle.method.proofs.Judges.{over-rows}
+use Rattle.building.specs.Built.{Lent}
 
 -- The second sheet's rows over the part behind the first's, of which there are m.
 module _ (first second : List Row) (m : ℕ) (many : m ≡ length first) (old words : List ℕ) (room : 2 * (m + length second) ≤ length old) (h : words ≡ over (pairsOf first) old) where

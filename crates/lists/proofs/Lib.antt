@@ -1,17 +1,6 @@
--- Laws behind the list, by subject.
-pub mod Blanks
-pub mod Next
-pub mod Kept
-pub mod Judges
-pub mod Prunes
-pub mod Taking
-pub mod Copies
-pub mod Widens
-pub mod Generates
-pub mod Standing
+-- Laws behind the list calls, by subject.
 pub mod Lending
-pub mod Building
-pub mod Builds
 pub mod Forms
+pub mod InForm
 pub mod Wholes
 pub mod Parts

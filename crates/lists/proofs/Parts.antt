@@ -20,15 +20,16 @@ use Rattle.rules.proofs.Orders.{is-order}
 use Rattle.sheets.specs.Barred.{barred, pairsOf}
 use Rattle.search.specs.Question.{good}
 use Rattle.search.proofs.Queries.{few-inputs}
-use Rattle.lists.specs.declared.build_part.Part.{Part}
+use Rattle.method.specs.Blank.{solid}
+use Rattle.method.specs.Lent.{asks, firstRows, behind}
+use Rattle.building.specs.declared.build_part.Part.{Part}
+use Rattle.building.specs.Built.{partReply, PartStands}
+use Rattle.building.proofs.Building.{generated-solid}
+use Rattle.building.proofs.Builds.{collides-part, no-room-part, gives-part}
 use Rattle.lists.specs.declared.formed.Form.{Form}
-use Rattle.lists.specs.Blank.{solid}
 use Rattle.lists.specs.Formed.{formOf}
-use Rattle.lists.specs.Lent.{asks, firstRows, behind}
-use Rattle.lists.specs.Built.{partReply, PartStands}
-use Rattle.lists.proofs.Building.{generated-solid}
-use Rattle.lists.proofs.Builds.{collides-part, no-room-part, gives-part, partial-in-form}
 use Rattle.lists.proofs.Forms.{form-good}
+use Rattle.lists.proofs.InForm.{partial-in-form}
 use Rattle.lists.proofs.Lending as lending
 use Rattle.lists.proofs.Wholes.{refusal-some}
 

@@ -20,14 +20,15 @@ use Rattle.rules.proofs.Refusals.{whole-accepted}
 use Rattle.sheets.specs.Barred.{barred, pairsOf}
 use Rattle.search.proofs.Queries.{few-inputs}
 use Rattle.search.specs.Question.{good}
-use Rattle.lists.specs.declared.build.Built.{Built}
+use Rattle.method.specs.Blank.{solid}
+use Rattle.method.specs.Lent.{asks, firstRows, behind}
+use Rattle.building.specs.declared.build.Built.{Built}
+use Rattle.building.specs.Built.{Lent, builtReply, Stands}
+use Rattle.building.proofs.Builds.{collides, too-many, no-room, gives}
 use Rattle.lists.specs.declared.formed.Form.{Form}
-use Rattle.lists.specs.Blank.{solid}
 use Rattle.lists.specs.Formed.{formOf}
-use Rattle.lists.specs.Lent.{asks, firstRows, behind}
-use Rattle.lists.specs.Built.{Lent, builtReply, Stands}
-use Rattle.lists.proofs.Builds.{whole-in-form, collides, too-many, no-room, gives}
 use Rattle.lists.proofs.Forms.{form-good}
+use Rattle.lists.proofs.InForm.{whole-in-form}
 use Rattle.lists.proofs.Lending as lending
 
 number-of : (r s : Reply) → r ≡ s → r .number ≡ s .number

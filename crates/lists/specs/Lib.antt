@@ -1,5 +1,2 @@
--- How the method keeps its rows, and what it is lent.
-pub mod Blank
-pub mod Lent
+-- Which input of the list calls is in form.
 pub mod Formed
-pub mod Built

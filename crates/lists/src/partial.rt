@@ -10,14 +10,14 @@ ghost use Rattle.rules.specs.Calls.{cares, lent, partial, partialValues, roomIn
 ghost use Rattle.lists.specs.declared.formed.Form.{Form};
 ghost use Rattle.lists.specs.Formed.{formOf};
 use crate::barring::bar_both;
-use crate::build_part::Part;
-use crate::build_part::build_part;
 use crate::formed::Form;
 use crate::formed::form_of;
-use crate::solid::copy_behind;
 use crate::whole::BOTH;
 use crate::whole::KEPT;
 use crate::whole::shorter;
+use building::build_part::Part;
+use building::build_part::build_part;
+use method::solid::copy_behind;
 use rules::List;
 use rules::PartialAnswer;
 use rules::Refusal;

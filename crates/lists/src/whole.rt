@@ -10,11 +10,11 @@ ghost use Rattle.rules.specs.Calls.{cares, lent, listValues, roomIn, values, wh
 ghost use Rattle.lists.specs.declared.formed.Form.{Form};
 ghost use Rattle.lists.specs.Formed.{formOf};
 use crate::barring::bar_both;
-use crate::build::Built;
-use crate::build::build;
 use crate::formed::Form;
 use crate::formed::form_of;
-use crate::solid::copy_behind;
+use building::build::Built;
+use building::build::build;
+use method::solid::copy_behind;
 use rules::List;
 use rules::ListAnswer;
 use rules::Sheet;

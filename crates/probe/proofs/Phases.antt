@@ -29,10 +29,10 @@ use Rattle.sheets.proofs.Pairs.{pairs-append, pairs-length, over-length}
 use Rattle.search.specs.Question.{good, caresWithin, Asked}
 use Rattle.search.proofs.Queries.{few-inputs}
 use Rattle.search.proofs.Queries as queries
-use Rattle.lists.specs.Lent.{asks, firstRows}
-use Rattle.lists.proofs.Generates.{Generating}
-use Rattle.lists.proofs.Builds.{barred-asks}
-use Rattle.lists.proofs.Kept.{first-rows}
+use Rattle.method.specs.Lent.{asks, firstRows}
+use Rattle.method.proofs.Generates.{Generating}
+use Rattle.method.proofs.Kept.{first-rows}
+use Rattle.lists.proofs.InForm.{barred-asks}
 use Rattle.lists.proofs.Lending.{few-barred}
 use Rattle.probe.specs.Phase.{settings, rowsForm, bytesForm, phase, phaseWords}
 

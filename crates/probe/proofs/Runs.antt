@@ -14,7 +14,7 @@ use Rattle.rules.specs.Method.{marks, all}
 use Rattle.rules.specs.Answers.{Verdict, given, refused, refusal, over, after}
 use Rattle.rules.specs.Calls.{prune, rowsIn}
 use Rattle.rules.proofs.Logic.{test}
-use Rattle.lists.proofs.Standing.{marks-length}
+use Rattle.method.proofs.Standing.{marks-length}
 use Rattle.given.specs.Given.{inForm}
 use Rattle.records.specs.declared.cubes.Cube.{Cube}
 use Rattle.records.specs.Marks.{rowOf, markedBy, marked}

@@ -15,10 +15,10 @@ use Rattle.rules.proofs.Logic.{and-both, and-join}
 use Rattle.rules.proofs.Orders.{natural-order}
 use Rattle.sheets.specs.Barred.{rowsOf}
 use Rattle.search.specs.Question.{caresWithin, Asked}
-use Rattle.lists.specs.Blank.{blank, isBlank, blanked}
-use Rattle.lists.specs.Lent.{firstRows, behind, staying}
-use Rattle.lists.proofs.Blanks.{row-solid}
-use Rattle.lists.proofs.Standing.{all-count}
+use Rattle.method.specs.Blank.{blank, isBlank, blanked}
+use Rattle.method.specs.Lent.{firstRows, behind, staying}
+use Rattle.method.proofs.Blanks.{row-solid}
+use Rattle.method.proofs.Standing.{all-count}
 use Rattle.records.specs.Words.{blankMarks, goneMarks}
 use Rattle.records.proofs.Laid.{natural-size}
 

@@ -14,9 +14,9 @@ use Rattle.rules.proofs.Orders.{is-order, natural-order}
 use Rattle.rules.proofs.GivenRows.{rowAt, rowsIn-take, count-within}
 use Rattle.sheets.specs.Barred.{rowsOf, pairsOf}
 use Rattle.sheets.proofs.Pairs.{over-more, over-row}
-use Rattle.lists.specs.Blank.{isBlank}
-use Rattle.lists.specs.Lent.{firstRows}
-use Rattle.lists.proofs.Judges.{rows-split}
+use Rattle.method.specs.Blank.{isBlank}
+use Rattle.method.specs.Lent.{firstRows}
+use Rattle.method.proofs.Judges.{rows-split}
 use Rattle.records.specs.Words.{blankMarks}
 
 -- one number more of the order

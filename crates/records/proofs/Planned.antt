@@ -15,7 +15,7 @@ use Rattle.rules.specs.Answers.{Verdict, given, refused, replyOf, pruneReply, r
 use Rattle.rules.specs.Calls.{kept, prune}
 use Rattle.rules.proofs.Logic.{test}
 use Rattle.rules.proofs.Sole.{prune-sole}
-use Rattle.lists.proofs.Standing.{marks-length}
+use Rattle.method.proofs.Standing.{marks-length}
 use Rattle.given.specs.Given.{inForm}
 use Rattle.given.proofs.InForm.{form-count}
 use Rattle.records.specs.Words.{goneMarks, gone}

@@ -15,11 +15,11 @@ use Rattle.rules.proofs.Logic.{and-both, yes-not, no-not}
 use Rattle.rules.proofs.Judged.{judge-first, judge-none}
 use Rattle.sheets.specs.Barred.{pairsOf}
 use Rattle.search.specs.Question.{Asked}
-use Rattle.lists.specs.Blank.{blanked}
-use Rattle.lists.specs.Lent.{firstRows}
-use Rattle.lists.proofs.Blanks.{blanked-length}
-use Rattle.lists.proofs.Kept.{first-rows}
-use Rattle.lists.proofs.Standing.{marks-length}
+use Rattle.method.specs.Blank.{blanked}
+use Rattle.method.specs.Lent.{firstRows}
+use Rattle.method.proofs.Blanks.{blanked-length}
+use Rattle.method.proofs.Kept.{first-rows}
+use Rattle.method.proofs.Standing.{marks-length}
 use Rattle.given.specs.Given.{inForm}
 use Rattle.given.proofs.InForm.{form-count}
 use Rattle.records.specs.Words.{blankMarks, goneMarks}

@@ -5,7 +5,7 @@ use Prim.Native.Nat.{ℕ}
 use Rattle.rules.specs.declared.Row.{Row}
 use Rattle.rules.specs.Words.{one}
 use Rattle.rules.specs.Answers.{Verdict, given, refused}
-use Rattle.lists.specs.Blank.{isBlank}
+use Rattle.method.specs.Blank.{isBlank}
 
 -- by which rows stay
 abbrev pub goneMarks : List Bool → List ℕ

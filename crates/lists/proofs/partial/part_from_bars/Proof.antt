@@ -7,8 +7,8 @@ use lib.Seq.{length-take-le}
 use borrow.Author.Needs.{needs}
 use Rattle.rules.specs.Sheets.{maxClauses}
 use Rattle.rules.specs.Calls.{cares, values, partial}
-use Rattle.lists.specs.Built.{partReply}
 use Rattle.search.proofs.Queries.{few-inputs}
+use Rattle.building.specs.Built.{partReply}
 use Rattle.lists.proofs.Forms.{form-good}
 use Rattle.lists.proofs.Lending.{few-barred, both-room}
 use Rattle.lists.proofs.Wholes.{ready}

@@ -6,7 +6,7 @@ use borrow.Author.Needs.{needs, fits-under}
 use Rattle.rules.specs.Method.{all}
 use Rattle.sheets.specs.Numbers.{numbersOf}
 use Rattle.search.specs.Question.{foundAs}
-use Rattle.lists.proofs.Generates.{Generating, begin, same-size, has-words, has-room, still-asked, one-more, no-more}
+use Rattle.method.proofs.Generates.{Generating, begin, same-size, has-words, has-room, still-asked, one-more, no-more}
 use Rattle.probe.proofs.Phases.{none-widens, all-kept}
 use Rattle.probe.proofs.phase.settings.Statement.{statement}
 use Rattle.probe.proofs.phase.settings.Tie as tie

@@ -6,7 +6,7 @@ use native.Mathlib.Omega.{arith}
 use lib.ListN.{length, set, length-set}
 use Rattle.rules.specs.Answers.{over}
 use Rattle.sheets.specs.Barred.{rowsOf}
-use Rattle.lists.specs.Lent.{firstRows}
+use Rattle.method.specs.Lent.{firstRows}
 use Rattle.records.specs.Words.{blankMarks}
 use Rattle.records.proofs.Laid.{mark-more}
 use Rattle.records.proofs.words.mark.Statement.{statement}

@@ -1,0 +1,2 @@
+-- What list building is lent, and what it leaves.
+pub mod Built

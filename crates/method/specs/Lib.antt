@@ -1,0 +1,3 @@
+-- How the method keeps its rows, and how its settings are asked for.
+pub mod Blank
+pub mod Lent

@@ -169,23 +169,10 @@ impl Refusal {
     pub fn payload(self) -> u32
         ensures { λ r. ⌜ r ≡ first (refusalReply self .values) ⌝ }
     {
-        match self {
-            Refusal::Inputs => 0,
-            Refusal::Order => 0,
-            Refusal::OnSheet => 0,
-            Refusal::OffSheet => 0,
-            Refusal::Asked => 0,
-            Refusal::Collision(s) => s.0,
-            Refusal::TooManyRows => 0,
-            Refusal::GivenList => 0,
-            Refusal::GivenSetting => 0,
-            Refusal::LongText => 0,
-            Refusal::Header => 0,
-            Refusal::Token => 0,
-            Refusal::Clauses => 0,
-            Refusal::OtherInputs => 0,
-            Refusal::Room => 0,
+        if let Refusal::Collision(s) = self {
+            return s.0;
         }
+        0
     }
 }
 

@@ -1,20 +1,20 @@
 -- The token of a part, by its beginning and its decimal.
-use mathlib.Core.Path.{_≡_, refl, ap, sym, _∙_, subst}
+use mathlib.Core.Path.{_≡_, refl, ap, sym, _∙_}
 use mathlib.Core.Bool.{true, false}
 use mathlib.Core.List.{List, [], _∷_}
-use mathlib.Core.Option.{Option}
 use Prim.Native.Nat.{ℕ, _-_, _≤_}
 use native.Mathlib.Omega.{arith}
-use lib.Dec.{eqb}
-use lib.IntN.{ℤ, pos, negsuc, natAbs}
+use lib.IntN.{pos, negsuc, natAbs}
 use lib.ListN.{length, take, drop, length-drop}
 use lib.Seq.{take-all}
-use Rattle.rules.specs.Dimacs.{_>>=_, decimal, within, Token, number, ends, other, signed, tokenOf}
-use Rattle.rules.proofs.Logic.{test, option, clash}
+use borrow.Author.Tests.{leb-true}
+use Rattle.rules.specs.Dimacs.{decimal, Token, number, ends, other, signed, tokenOf}
+use Rattle.rules.proofs.Logic.{clash}
+use Rattle.rules.proofs.ReadForm.{tokenReach, token-reach}
 use Rattle.dimacs.specs.declared.decimal.Decimal.{Decimal}
 use Rattle.dimacs.specs.declared.decimal.Decimal.the-variants.{Number, Missing}
 use Rattle.dimacs.specs.Parts.{isByte, beginsLonger, decimalWithin, decimalOf}
-use Rattle.dimacs.proofs.Decimals.{within-bounds, decimal-bounds}
+use Rattle.dimacs.proofs.Decimals.{decimal-bounds}
 
 -- all behind the first byte
 abbrev pub tail : List ℕ → List ℕ
@@ -71,19 +71,10 @@ Bounded v (number z) = natAbs z ≤ v
 Bounded v ends = Unit {0}
 Bounded v other = Unit {0}
 
-signed-bounded : (v low : ℕ) (sign : ℕ → ℤ) → ((m : ℕ) → low ≤ m → natAbs (sign m) ≡ m) → (o : Option ℕ) → Bounded v (signed sign (o >>= within low v))
-signed-bounded v low sign same o =
-    option (o >>= within low v) (λ e. rw e tt) λ m e.
-    let (l, h) = within-bounds low v o e in rw e (subst (λ k. k ≤ v) (sym (same m l)) h)
-
-positive-bounded : (v : ℕ) (o : Option ℕ) → Bounded v (signed pos (o >>= within 0 v))
-positive-bounded v o = signed-bounded v 0 pos (λ m l. refl) o
-
-negative-bounded : (v : ℕ) (o : Option ℕ) → Bounded v (signed (λ m. negsuc (m - 1)) (o >>= within 1 v))
-negative-bounded v o = signed-bounded v 1 (λ m. negsuc (m - 1)) (λ m l. omega arith) o
+reach-bounded : (v : ℕ) (t : Token) → tokenReach v t ≡ true → Bounded v t
+reach-bounded v (number z) h = leb-true (natAbs z) v h
+reach-bounded v ends h = tt
+reach-bounded v other h = tt
 
 pub token-bounded : (v : ℕ) (t : List ℕ) → Bounded v (tokenOf v t)
-token-bounded v [] = tt
-token-bounded v (b ∷ []) = test (eqb b 37) (λ p. rw p tt) λ p. rw p (positive-bounded v (decimal (b ∷ [])))
-token-bounded v (b ∷ c ∷ t) =
-    test (eqb b 45) (λ p. rw p (negative-bounded v (decimal (c ∷ t)))) λ p. rw p (positive-bounded v (decimal (b ∷ c ∷ t)))
+token-bounded v t = reach-bounded v (tokenOf v t) (token-reach v t)

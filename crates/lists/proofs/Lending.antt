@@ -4,28 +4,30 @@ use mathlib.Core.Bool.{true}
 use mathlib.Core.List.{List, [], _∷_, _++_, append-assoc, append-nil}
 use Prim.Native.Nat.{ℕ, _+_, _-_, _*_, _≤_}
 use native.Mathlib.Omega.{arith}
-use lib.Dec.{eqb, leb}
+use lib.Dec.{eqb}
 use lib.IntN.{ℤ}
 use lib.ListN.{length, take, drop, length-append, length-take, length-drop, drop-of-length-le}
 use lib.Seq.{take-all, take-at, drop-at, drop-drop}
-use borrow.Author.Tests.{eqb-true, leb-true}
+use borrow.Author.Tests.{eqb-true}
 use borrow.Rule.Slice.PartMut.{putMid}
 use Rattle.rules.specs.declared.Row.{Row}
-use Rattle.rules.specs.Words.{maxInputs, eachOnce, isOrder, fits, holds, isRow}
-use Rattle.rules.specs.Sheets.{maxNumbers, maxClauses, clauses, inReach, wellFormed}
+use Rattle.rules.specs.Words.{maxInputs, eachOnce, isOrder, fits}
+use Rattle.rules.specs.Sheets.{maxClauses, inReach, wellFormed}
 use Rattle.rules.specs.Method.{maxRows}
 use Rattle.rules.specs.Answers.{over}
-use Rattle.rules.specs.Calls.{areRows, wordsOf}
+use Rattle.rules.specs.Calls.{wordsOf}
 use Rattle.rules.proofs.Logic.{and-both, and-join}
 use Rattle.sheets.specs.Barred.{barred, rowsOf, pairsOf}
-use Rattle.sheets.proofs.Bars.{barred-length, barred-rows}
+use Rattle.sheets.proofs.Bars.{barred-rows}
 use Rattle.sheets.proofs.Clauses.{form-reach}
 use Rattle.sheets.proofs.Pairs.{pairs-append, pairs-length, rows-pairs, over-length}
-use Rattle.search.specs.Question.{caresWithin, Asked}
-use Rattle.method.specs.Lent.{firstRows}
+use Rattle.search.specs.Question.{good, caresWithin, Asked}
+use Rattle.search.proofs.Queries.{rows-within, few-barred}
+use Rattle.method.specs.Lent.{asks, firstRows}
 use Rattle.method.proofs.Kept.{first-rows}
 use Rattle.method.proofs.Judges.{over-rows}
 use Rattle.building.specs.Built.{Lent}
+use Rattle.lists.specs.Laid.{Laid}
 
 -- The second sheet's rows over the part behind the first's, of which there are m.
 module _ (first second : List Row) (m : ℕ) (many : m ≡ length first) (old words : List ℕ) (room : 2 * (m + length second) ≤ length old) (h : words ≡ over (pairsOf first) old) where
@@ -73,13 +75,6 @@ module _ (first second : List Row) (m : ℕ) (many : m ≡ length first) (old wo
       ∙ sym (over-rows (first ++ second) (m + length second) old both ∙ ap (λ (x : List ℕ). x ++ rest) (pairs-append first second) ∙ append-assoc (pairsOf first) (pairsOf second) rest)
 
 -- The barred rows are rows of n inputs, so no more is asked of them.
-cares-in : (n : ℕ) (rows : List Row) → areRows n rows ≡ true → caresWithin n rows ≡ true
-unfolding areRows caresWithin
-cares-in n [] h = refl
-cares-in n (r ∷ rows) h =
-    let a = and-both (isRow n r) (areRows n rows) h in
-    and-join (and-both (fits n (r .care)) (holds r (r .value)) (a .0) .0) (cares-in n rows (a .1))
-
 cares-append : (n : ℕ) (xs ys : List Row) → caresWithin n xs ≡ true → caresWithin n ys ≡ true → caresWithin n (xs ++ ys) ≡ true
 unfolding caresWithin
 cares-append n [] ys p q = q
@@ -101,66 +96,85 @@ module _ (n : ℕ) (order : List ℕ) (on off : List ℤ) (few : n ≤ maxInputs
   }
 
   on-cares : caresWithin n (barred on) ≡ true
-  on-cares = cares-in n (barred on) (barred-rows n on (form-reach n on a3))
+  on-cares = rows-within n (barred on) (barred-rows n on (form-reach n on a3))
 
   off-cares : caresWithin n (barred off) ≡ true
-  off-cares = cares-in n (barred off) (barred-rows n off (form-reach n off a4))
+  off-cares = rows-within n (barred off) (barred-rows n off (form-reach n off a4))
 
-  module _ (kept both old old′ : List ℕ) (ons offs : ℕ) (manyOn : ons ≡ length (barred on)) (manyOff : offs ≡ length (barred off))
-      (k : kept ≡ over (pairsOf (barred on)) old) (b : both ≡ over (pairsOf (barred off ++ barred on)) old′)
-      (room : 2 * (maxClauses + maxRows) ≤ length old) (fit : 2 * (offs + ons) ≤ length both) where
-    pub on-first : firstRows ons kept ≡ barred on
-    on-first = ap (firstRows ons) (k ∙ over-rows (barred on) ons old (sym manyOn)) ∙ first-rows (barred on) (drop (2 * ons) old) ons (sym manyOn)
+  module _ {kept both : List ℕ} {ons offs : ℕ} (l : Laid on off kept both ons offs) where
+    pub few-rows : offs + ons ≤ 2 * maxClauses
+    few-rows =
+        let a = few-barred n on a3 in
+        let b = few-barred n off a4 in
+        let c = l .many-on in
+        let d = l .many-off in
+        omega arith
+
+    rows-size : length (pairsOf (barred off ++ barred on)) ≡ 2 * (offs + ons)
+    rows-size =
+        pairs-length (barred off ++ barred on)
+        ∙ ap (λ (x : ℕ). 2 * x) (length-append (barred off) (barred on) ∙ ap₂ (λ (x y : ℕ). x + y) (sym (l .many-off)) (sym (l .many-on)))
+
+    pub rows-fit : 2 * (offs + ons) ≤ length both
+    rows-fit =
+        let a = few-rows in
+        let b = l .both-room in
+        let c = rows-size in
+        let e = ap length (l .both-is) ∙ over-length (pairsOf (barred off ++ barred on)) (l .old-both) (omega arith) in
+        omega arith
+
+    on-first : firstRows ons kept ≡ barred on
+    on-first =
+        ap (firstRows ons) (l .kept-is ∙ over-rows (barred on) ons (l .old-kept) (sym (l .many-on)))
+        ∙ first-rows (barred on) (drop (2 * ons) (l .old-kept)) ons (sym (l .many-on))
 
     abbrev run : List ℕ
     run = take (2 * (offs + ons)) both
 
     run-is : run ≡ pairsOf (barred off ++ barred on)
     run-is =
-        let size : length (pairsOf (barred off ++ barred on)) ≡ 2 * (offs + ons) =
-        pairs-length (barred off ++ barred on) ∙ ap (λ (x : ℕ). 2 * x) (length-append (barred off) (barred on) ∙ ap₂ (λ (x y : ℕ). x + y) (sym manyOff) (sym manyOn)) in
-        ap (take (2 * (offs + ons))) b ∙ take-at (pairsOf (barred off ++ barred on)) (drop (length (pairsOf (barred off ++ barred on))) old′) (2 * (offs + ons)) size
+        ap (take (2 * (offs + ons))) (l .both-is)
+        ∙ take-at (pairsOf (barred off ++ barred on)) (drop (length (pairsOf (barred off ++ barred on))) (l .old-both)) (2 * (offs + ons)) rows-size
 
     run-rows : rowsOf run ≡ barred off ++ barred on
     run-rows = ap rowsOf run-is ∙ rows-pairs (barred off ++ barred on)
 
-    pub off-first : firstRows offs run ≡ barred off
-    off-first = ap (λ (x : List ℕ). rowsOf (take (2 * offs) x)) (run-is ∙ pairs-append (barred off) (barred on)) ∙ first-rows (barred off) (pairsOf (barred on)) offs (sym manyOff)
+    off-first : firstRows offs run ≡ barred off
+    off-first =
+        ap (λ (x : List ℕ). rowsOf (take (2 * offs) x)) (run-is ∙ pairs-append (barred off) (barred on))
+        ∙ first-rows (barred off) (pairsOf (barred on)) offs (sym (l .many-off))
 
-    kept-room : 2 * (ons + maxRows) ≤ length kept
-    unfolding wellFormed
-    kept-room =
-        let c = and-both (leb (clauses on) maxClauses) _ (and-both (leb (length on) maxNumbers) _ a3 .1) in
-        let l : clauses on ≤ maxClauses = leb-true (clauses on) maxClauses (c .0) in
-        let d = barred-length on in
-        let e = ap length k ∙ over-length (pairsOf (barred on)) old (let a = pairs-length (barred on) in omega arith) in
+    room-left : 2 * (ons + maxRows) ≤ length kept
+    room-left =
+        let a = few-barred n on a3 in
+        let b = pairs-length (barred on) in
+        let c = l .many-on in
+        let d = l .kept-room in
+        let e = ap length (l .kept-is) ∙ over-length (pairsOf (barred on)) (l .old-kept) (omega arith) in
         omega arith
 
-    pub lent : Lent order [] [] run offs kept ons
+    lent-none : Lent order [] [] run offs kept ons
     unfolding wordsOf
-    lent = record {
+    lent-none = record {
       on-asked = subst (Asked order [] []) (sym on-first) (asked (barred on) on-cares);
       off-asked = subst (Asked order [] []) (sym off-first) (asked (barred off) off-cares);
       both-asked = subst (Asked order [] []) (sym run-rows) (asked (barred off ++ barred on) (cares-append n (barred off) (barred on) off-cares on-cares));
       joined = run-rows ∙ sym (ap₂ (λ (x y : List Row). x ++ y) off-first on-first);
-      within = (let a = length-take (2 * (offs + ons)) both in omega arith);
-      room = kept-room;
+      within = (let a = length-take (2 * (offs + ons)) both in let b = rows-fit in omega arith);
+      room = room-left;
     }
 
--- A sheet in form bars at most 1,024 rows.
-pub few-barred : (n : ℕ) (sheet : List ℤ) → wellFormed n sheet ≡ true → (clauses sheet ≤ maxClauses) × (length (barred sheet) ≤ maxClauses)
-unfolding wellFormed
-few-barred n sheet h =
-    let c = and-both (leb (clauses sheet) maxClauses) _ (and-both (leb (length sheet) maxNumbers) _ h .1) in
-    let l : clauses sheet ≤ maxClauses = leb-true (clauses sheet) maxClauses (c .0) in
-    (l, (let d = barred-length sheet in omega arith))
+    -- With empty sheets in place only the barred rows are asked.
+    module _ (empty : List ℕ) (isEmpty : empty ≡ []) where
+      pub ready : Lent order empty empty run offs kept ons
+      ready = subst (λ (x : List ℕ). Lent order x x run offs kept ons) (sym isEmpty) lent-none
 
-pub both-room : (n : ℕ) (on off : List ℤ) → wellFormed n on ≡ true → wellFormed n off ≡ true → (both old : List ℕ) (ons offs : ℕ) → ons ≡ length (barred on) → offs ≡ length (barred off)
-    → both ≡ over (pairsOf (barred off ++ barred on)) old → 4 * maxClauses ≤ length old → 2 * (offs + ons) ≤ length both
-both-room n on off p q both old ons offs i j b h =
-    let a = few-barred n on p .1 in
-    let c = few-barred n off q .1 in
-    let l = pairs-length (barred off ++ barred on) in
-    let m = length-append (barred off) (barred on) in
-    let e = ap length b ∙ over-length (pairsOf (barred off ++ barred on)) old (omega arith) in
-    omega arith
+      none-asks : (rows bars : List Row) → rows ≡ bars → asks empty rows ≡ good [] [] bars
+      unfolding wordsOf
+      none-asks rows bars q = ap (λ (x : List ℕ). asks x rows) isEmpty ∙ ap (good [] []) q
+
+      pub on-asks : asks empty (firstRows ons kept) ≡ good [] [] (barred on)
+      on-asks = none-asks (firstRows ons kept) (barred on) on-first
+
+      pub off-asks : asks empty (firstRows offs run) ≡ good [] [] (barred off)
+      off-asks = none-asks (firstRows offs run) (barred off) off-first

@@ -1,70 +1,27 @@
 -- From what was built to the partial list's call.
-use mathlib.Core.Path.{_≡_, refl, sym, ap, ap₂, _∙_, subst}
+use mathlib.Core.Path.{_≡_, refl, sym, ap, _∙_, subst}
 use mathlib.Core.Bool.{Bool, true}
-use mathlib.Core.List.{List, [], _∷_, _++_}
+use mathlib.Core.List.{List, [], _∷_}
 use Prim.Native.Nat.{ℕ, _+_, _*_, _≤_}
 use native.Mathlib.Omega.{arith}
 use lib.Dec.{ltb}
-use lib.IntN.{ℤ}
-use lib.ListN.{length, take}
-use borrow.Author.Tests.{ltb-true, ltb-false, le-ltb}
+use lib.ListN.{length}
+use borrow.Author.Tests.{ltb-true, ltb-false}
 use Rattle.rules.specs.declared.Row.{Row}
 use Rattle.rules.specs.declared.Refusal.{Refusal}
-use Rattle.rules.specs.Words.{one, isInputs, isOrder}
-use Rattle.rules.specs.Sheets.{maxClauses, wellFormed}
-use Rattle.rules.specs.Method.{maxRows, generated, complete}
+use Rattle.rules.specs.Words.{one, isOrder}
+use Rattle.rules.specs.Method.{generated, complete}
 use Rattle.rules.specs.Answers.{Reply, Verdict, given, refused, answered, refusal, refusalReply, replyOf, over, after}
-use Rattle.rules.specs.Calls.{lent, wordsOf, collision, Partial, partialFor, partialValues, partial}
+use Rattle.rules.specs.Calls.{collision, Partial, partialFor, partialValues}
 use Rattle.rules.proofs.Logic.{test, option}
 use Rattle.rules.proofs.Orders.{is-order}
-use Rattle.sheets.specs.Barred.{barred, pairsOf}
-use Rattle.search.specs.Question.{good}
-use Rattle.search.proofs.Queries.{few-inputs}
 use Rattle.method.specs.Blank.{solid}
-use Rattle.method.specs.Lent.{asks, firstRows, behind}
+use Rattle.method.specs.Lent.{behind}
 use Rattle.building.specs.declared.build_part.Part.{Part}
 use Rattle.building.specs.Built.{partReply, PartStands}
 use Rattle.building.proofs.Building.{generated-solid}
 use Rattle.building.proofs.Builds.{collides-part, no-room-part, gives-part}
-use Rattle.lists.specs.declared.formed.Form.{Form}
-use Rattle.lists.specs.Formed.{formOf}
-use Rattle.lists.proofs.Forms.{form-good}
-use Rattle.lists.proofs.InForm.{partial-in-form}
-use Rattle.lists.proofs.Lending as lending
 use Rattle.lists.proofs.Wholes.{refusal-some}
-
--- With an empty sheet in place only the barred rows are asked.
-none-asks : (empty : List ℕ) → empty ≡ [] → (rows bars : List Row) → rows ≡ bars → asks empty rows ≡ good [] [] bars
-unfolding wordsOf
-none-asks empty e rows bars q = ap (λ (x : List ℕ). asks x rows) e ∙ ap (good [] []) q
-
--- The verdict on what is lent by an input in form is the call's.
-module _ (n : ℕ) (order : List ℕ) (on off : List ℤ) (inForm : formOf n order on off ≡ Form.Good) (empty : List ℕ) (isEmpty : empty ≡ [])
-    (kept both old old′ : List ℕ) (ons offs : ℕ) (manyOn : ons ≡ length (barred on)) (manyOff : offs ≡ length (barred off))
-    (k : kept ≡ over (pairsOf (barred on)) old) (b : both ≡ over (pairsOf (barred off ++ barred on)) old′)
-    (room : 2 * (maxClauses + maxRows) ≤ length old) (room′ : 4 * maxClauses ≤ length old′) where
-  formed : (isInputs n ≡ true) × (isOrder n order ≡ true) × (wellFormed n on ≡ true) × (wellFormed n off ≡ true)
-  formed = form-good n order on off inForm
-
-  fit : 2 * (offs + ons) ≤ length both
-  fit = lending.both-room n on off (formed .2) (formed .3) both old′ ons offs manyOn manyOff b room′
-
-  on-asks : asks empty (firstRows ons kept) ≡ good [] [] (barred on)
-  on-asks =
-      none-asks empty isEmpty (firstRows ons kept) (barred on)
-      (lending.on-first n order on off (few-inputs n (formed .0)) (formed .1) (formed .2) (formed .3) kept both old old′ ons offs manyOn manyOff k b room fit)
-
-  off-asks : asks empty (firstRows offs (take (2 * (offs + ons)) both)) ≡ good [] [] (barred off)
-  off-asks =
-      none-asks empty isEmpty (firstRows offs (take (2 * (offs + ons)) both)) (barred off)
-      (lending.off-first n order on off (few-inputs n (formed .0)) (formed .1) (formed .2) (formed .3) kept both old old′ ons offs manyOn manyOff k b room fit)
-
-  pub asked-part : (m r : ℕ) → m ≤ maxRows
-      → partialFor [] order (asks empty (firstRows ons kept)) (asks empty (firstRows offs (take (2 * (offs + ons)) both))) m r
-      ≡ partial n (lent order) (lent on) (lent off) m r
-  asked-part m r h =
-      ap₂ (λ (f g : ℕ → Bool). partialFor [] order f g m r) on-asks off-asks
-      ∙ sym (partial-in-form n order on off (formed .0) (formed .1) (formed .2) (formed .3) m r (le-ltb maxRows m h))
 
 -- A refusal leaves a run as it was.
 pub refused-leaves : {A B : Type 0} (values : A → List ℕ) (cells : A → List B) (v : Verdict A) (f : Refusal) (old : List B) → refusalReply f ≡ replyOf values v → old ≡ after cells v old

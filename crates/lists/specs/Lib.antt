@@ -1,2 +1,3 @@
--- Which input of the list calls is in form.
+-- Which input of the list calls is in form, and how its barred rows are kept.
 pub mod Formed
+pub mod Laid

@@ -9,7 +9,7 @@ ghost use Rattle.rules.specs.Answers.{after, partialReply, replyOf};
 ghost use Rattle.rules.specs.Calls.{cares, lent, partial, partialValues, roomIn, values};
 ghost use Rattle.lists.specs.declared.formed.Form.{Form};
 ghost use Rattle.lists.specs.Formed.{formOf};
-use crate::barring::bar_both;
+use crate::barring::bar_sheets;
 use crate::formed::Form;
 use crate::formed::form_of;
 use crate::whole::BOTH;
@@ -21,7 +21,6 @@ use method::solid::copy_behind;
 use rules::List;
 use rules::PartialAnswer;
 use rules::Refusal;
-use sheets::bar;
 
 // The same, of an input in form, with the runs that the rows are kept in.
 fn part_from_bars(
@@ -45,8 +44,9 @@ fn part_from_bars(
     ensures { λ _. ⌜ now (care .exit) ≡ after (λ p. cares (p .rows)) (partial n (lent (now (order .entry))) (lent (now (on .entry))) (lent (now (off .entry))) k (roomIn (now (care .entry)) (now (value .entry)))) (now (care .entry)) ⌝ }
     ensures { λ _. ⌜ now (value .exit) ≡ after (λ p. values (p .rows)) (partial n (lent (now (order .entry))) (lent (now (on .entry))) (lent (now (off .entry))) k (roomIn (now (care .entry)) (now (value .entry)))) (now (value .entry)) ⌝ }
 {
-    let ons = bar(n, on, kept);
-    let offs = bar_both(n, off, on, both);
+    let bars = bar_sheets(n, on, off, kept, both);
+    let ons = bars.ons;
+    let offs = bars.offs;
     let room = shorter(care.len(), value.len());
     let built = build_part(
         order,

@@ -9,7 +9,7 @@ ghost use Rattle.rules.specs.Answers.{after, listReply, replyOf};
 ghost use Rattle.rules.specs.Calls.{cares, lent, listValues, roomIn, values, whole};
 ghost use Rattle.lists.specs.declared.formed.Form.{Form};
 ghost use Rattle.lists.specs.Formed.{formOf};
-use crate::barring::bar_both;
+use crate::barring::bar_sheets;
 use crate::formed::Form;
 use crate::formed::form_of;
 use building::build::Built;
@@ -18,7 +18,6 @@ use method::solid::copy_behind;
 use rules::List;
 use rules::ListAnswer;
 use rules::Sheet;
-use sheets::bar;
 
 // Room for the barred rows of one sheet and the generated ones, and for the barred rows of both sheets: two words a row.
 pub const KEPT: usize = 2 * (Sheet::MAX_CLAUSES + List::MAX_ROWS);
@@ -51,8 +50,9 @@ fn from_bars(
     ensures { λ _. ⌜ now (care .exit) ≡ after cares (whole n (lent (now (order .entry))) (lent (now (on .entry))) (lent (now (off .entry))) (roomIn (now (care .entry)) (now (value .entry)))) (now (care .entry)) ⌝ }
     ensures { λ _. ⌜ now (value .exit) ≡ after values (whole n (lent (now (order .entry))) (lent (now (on .entry))) (lent (now (off .entry))) (roomIn (now (care .entry)) (now (value .entry)))) (now (value .entry)) ⌝ }
 {
-    let ons = bar(n, on, kept);
-    let offs = bar_both(n, off, on, both);
+    let bars = bar_sheets(n, on, off, kept, both);
+    let ons = bars.ons;
+    let offs = bars.offs;
     let room = shorter(care.len(), value.len());
     let built = build(
         order,

@@ -27,13 +27,12 @@ use Rattle.sheets.specs.Numbers.{numbersOf}
 use Rattle.sheets.proofs.Clauses.{form-reach}
 use Rattle.sheets.proofs.Pairs.{pairs-append, pairs-length, over-length}
 use Rattle.search.specs.Question.{good, caresWithin, Asked}
-use Rattle.search.proofs.Queries.{few-inputs}
+use Rattle.search.proofs.Queries.{few-inputs, few-clauses, few-barred}
 use Rattle.search.proofs.Queries as queries
 use Rattle.method.specs.Lent.{asks, firstRows}
 use Rattle.method.proofs.Generates.{Generating}
 use Rattle.method.proofs.Kept.{first-rows}
 use Rattle.lists.proofs.InForm.{barred-asks}
-use Rattle.lists.proofs.Lending.{few-barred}
 use Rattle.probe.specs.Phase.{settings, rowsForm, bytesForm, phase, phaseWords}
 
 -- Every row holds a setting.
@@ -102,11 +101,11 @@ module _ (n : ℕ) (order : List ℕ) (sheet : List ℤ) (old : List ℕ) (isFor
       (p .0, q .0, r .0, leb-true (2 * maxClauses) (length old) (r .1))
 
   pub bar-asked : (n ≤ maxInputs) × (wellFormed n sheet ≡ true) × (2 * clauses sheet ≤ length old)
-  bar-asked = (few-inputs n (parts .0), parts .2, (let a = few-barred n sheet (parts .2) .0 in omega (arith, parts .3)))
+  bar-asked = (few-inputs n (parts .0), parts .2, (let a = few-clauses n sheet (parts .2) in omega (arith, parts .3)))
 
   module _ (words : List ℕ) (ons : ℕ) (is : words ≡ over (pairsOf (barred sheet)) old) (many : ons ≡ length (barred sheet)) where
     pub bars-fit : ons ≤ length old / 2
-    bars-fit = let a = few-barred n sheet (parts .2) .1 in omega (arith, parts .3, many)
+    bars-fit = let a = few-barred n sheet (parts .2) in omega (arith, parts .3, many)
 
     pub room-behind : 2 * (ons + (length old / 2 - ons)) ≤ length words
     room-behind =

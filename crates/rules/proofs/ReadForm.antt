@@ -62,7 +62,7 @@ header-limits text =
     (inputs .0, inputs .1, clauses .1)
 
 -- The number of a token lies in reach.
-abbrev tokenReach : ℕ → Token → Bool
+abbrev pub tokenReach : ℕ → Token → Bool
 tokenReach v (number z) = leb (variable z) v
 tokenReach v ends = true
 tokenReach v other = true
@@ -77,7 +77,7 @@ positive-reach v o = signed-reach v 0 pos (λ m l. refl) (o >>= within 0 v) (bet
 negative-reach : (v : ℕ) (o : Option ℕ) → tokenReach v (signed (λ m. negsuc (m - 1)) (o >>= within 1 v)) ≡ true
 negative-reach v o = signed-reach v 1 (λ m. negsuc (m - 1)) (λ m l. omega arith) (o >>= within 1 v) (between 1 v o)
 
-token-reach : (v : ℕ) (w : List ℕ) → tokenReach v (tokenOf v w) ≡ true
+pub token-reach : (v : ℕ) (w : List ℕ) → tokenReach v (tokenOf v w) ≡ true
 token-reach v [] = refl
 token-reach v (b ∷ []) = test (eqb b (code "%")) (λ t. rw t) λ f. rw f (positive-reach v (decimal (b ∷ [])))
 token-reach v (b ∷ c ∷ t) =

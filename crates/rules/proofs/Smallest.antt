@@ -8,13 +8,13 @@ use native.Mathlib.Omega.{arith}
 use lib.Dec.{ltb}
 use borrow.Author.Tests.{ltb-true, ltb-false}
 use Rattle.rules.specs.declared.Row.{Row}
-use Rattle.rules.specs.Words.{fits, isOne, before, smaller, holds, isRow, dashes, atZero, atOne}
+use Rattle.rules.specs.Words.{isOne, before, smaller, holds, isRow, dashes, atZero, atOne}
 use Rattle.rules.specs.Search.{found, smallest, holdsSome, notBelow}
-use Rattle.rules.proofs.Logic.{test, either, option, clash, and-both, fails}
+use Rattle.rules.proofs.Logic.{test, either, option, clash, fails}
 use Rattle.rules.proofs.Bits.{bit, bit-high, bit-below}
 use Rattle.rules.proofs.Rows.{dashes-row}
 use Rattle.rules.proofs.Orders.{has, IsOrder}
-use Rattle.rules.proofs.Fixed.{Under, row-under, fixed-under}
+use Rattle.rules.proofs.Fixed.{Under, row-under, row-high, fixed-under}
 use Rattle.rules.proofs.Reach.{smallest-pass, smallest-try, orElse-some, Reach, pass, turn, sound, missed, same}
 use Rattle.rules.proofs.Reach.{reach-held, reach-kept, reach-in, pass-bit, turn-bit}
 
@@ -49,17 +49,14 @@ module _ (n : ℕ) (order : List ℕ) (o : IsOrder n order) where
   outside i l = fails (λ h. let m : i < n = o .inside i h in omega arith)
 
   module _ (r : Row) (isRow : isRow n r ≡ true) where
-    row-high : (i : ℕ) → n ≤ i → bit i (r .value) ≡ false
-    row-high i l = row-under n r isRow i (bit-high n i (r .care) (ltb-true (r .care) (2 ^ n) (and-both (fits n (r .care)) (holds r (r .value)) isRow .0)) l)
-
     -- over the whole order the search can come to the settings of the row
     pub reach-all : (t : ℕ) → t < 2 ^ n → holds r t ≡ true → Reach order r t
     reach-all t l h = reach-in order r t (row-under n r isRow) h (λ i a. test (ltb i n)
         (λ q. clash (o .every i (ltb-true i n q)) a)
-        (λ q. let m : n ≤ i = ltb-false i n q in bit-high n i t l m ∙ sym (row-high i m)))
+        (λ q. let m : n ≤ i = ltb-false i n q in bit-high n i t l m ∙ sym (row-high n r isRow i m)))
 
     pub reach-below : (t : ℕ) → Reach order r t → t < 2 ^ n
-    reach-below t s = bit-below n t (λ i l. reach-kept order r t i s (outside i l) ∙ row-high i l)
+    reach-below t s = bit-below n t (λ i l. reach-kept order r t i s (outside i l) ∙ row-high n r isRow i l)
 
   module _ (P : ℕ → Bool) (r : Row) (isRow : isRow n r ≡ true) where
     pub smallest-passes : (t : ℕ) → smallest P order r ≡ some t → P t ≡ true

@@ -15,13 +15,12 @@ use Rattle.rules.specs.Search.{smallest}
 use Rattle.rules.proofs.Logic.{test}
 use Rattle.rules.proofs.Bits.{bit, bit-high, bit-ext}
 use Rattle.rules.proofs.Orders.{has, is-order}
-use Rattle.rules.proofs.Fixed.{row-under, held-value, fixedAt, fixed-holds}
+use Rattle.rules.proofs.Fixed.{row-under, row-high, held-value, fixedAt, fixed-holds}
 use Rattle.rules.proofs.Rows.{dashes-row, atZero-row, atOne-row}
 use Rattle.rules.proofs.From.{free-first}
 use Rattle.search.specs.Question.{Asked, Ahead, Met, Lowers}
 use Rattle.search.proofs.Places.{first-left, all-passed, none-passed, passed-next, free-next}
 use Rattle.search.proofs.Steps.{Dashes, at-end, zero-found, with-one, is-dashes, dashes-free}
-use Rattle.search.proofs.Swift.{row-high}
 
 module _ (order : List ℕ) (place : ℕ) {a b : List ℤ} {rows : List Row} (q : Asked order a b rows) (r : Row) (h : Ahead order place r) where
   -- after the last place, the setting met is the row's own

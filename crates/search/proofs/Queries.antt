@@ -29,7 +29,7 @@ pub few-inputs : (n : ℕ) → isInputs n ≡ true → n ≤ maxInputs
 few-inputs n h = leb-true n maxInputs (and-both (leb 1 n) (leb n maxInputs) h .1)
 
 -- rows of n inputs care for no more
-rows-within : (n : ℕ) (rows : List Row) → areRows n rows ≡ true → caresWithin n rows ≡ true
+pub rows-within : (n : ℕ) (rows : List Row) → areRows n rows ≡ true → caresWithin n rows ≡ true
 unfolding areRows caresWithin
 rows-within n [] h = refl
 rows-within n (r ∷ rows) h =
@@ -45,18 +45,18 @@ module _ (n : ℕ) (sheet : List ℤ) (h : wellFormed n sheet ≡ true) where
       let q = and-both (leb (clauses sheet) maxClauses) (endsClosed true sheet && inReach n sheet) (p .1) in
       (q .0, and-both (endsClosed true sheet) (inReach n sheet) (q .1) .1)
 
-  pub few-clauses : 2 * clauses sheet ≤ 2 * maxClauses
-  few-clauses = let k = leb-true (clauses sheet) maxClauses (parts .0) in omega arith
+  pub few-clauses : clauses sheet ≤ maxClauses
+  few-clauses = leb-true (clauses sheet) maxClauses (parts .0)
 
-  pub few-barred : (count : ℕ) → count ≡ length (barred sheet) → 2 * count ≤ 2 * maxClauses
-  few-barred count e = let l = barred-length sheet in let k = few-clauses in omega arith
+  pub few-barred : length (barred sheet) ≤ maxClauses
+  few-barred = let l = barred-length sheet in let k = few-clauses in omega arith
 
   -- the rows that it bars, over the first words of a run of at least two words for each clause that a sheet may have
   module _ (old run : List ℕ) (count : ℕ) (size : 2 * maxClauses ≤ length old)
       (run-is : run ≡ over (pairsOf (barred sheet)) old) (count-is : count ≡ length (barred sheet)) where
     pub barred-fit : 2 * count ≤ length run
     barred-fit =
-        let k = few-barred count count-is in
+        let k = few-barred in
         let l = pairs-length (barred sheet) in
         let m = ap length run-is ∙ over-length (pairsOf (barred sheet)) old (omega arith) in
         omega arith

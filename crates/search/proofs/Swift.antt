@@ -9,15 +9,14 @@ use native.Mathlib.Omega.{arith}
 use lib.Dec.{eqb}
 use lib.IntN.{ℤ}
 use lib.ListN.{length, drop}
-use borrow.Author.Tests.{ltb-true}
 use Rattle.rules.specs.declared.Row.{Row}
-use Rattle.rules.specs.Words.{maxInputs, isOrder, fits, holds, isRow}
+use Rattle.rules.specs.Words.{maxInputs, isOrder, isRow}
 use Rattle.rules.specs.Sheets.{inReach}
 use Rattle.rules.specs.Search.{smallest}
-use Rattle.rules.proofs.Logic.{clash, fails, option, and-both, or-right}
-use Rattle.rules.proofs.Bits.{bit, bit-high, bit-below}
+use Rattle.rules.proofs.Logic.{clash, fails, option, or-right}
+use Rattle.rules.proofs.Bits.{bit, bit-below}
 use Rattle.rules.proofs.Orders.{has, IsOrder, is-order}
-use Rattle.rules.proofs.Fixed.{row-under}
+use Rattle.rules.proofs.Fixed.{row-under, row-high}
 use Rattle.rules.proofs.Reach.{sound, reach-held, reach-kept}
 use Rattle.rules.proofs.Smallest.{smallest-passes, smallest-held, smallest-below, smallest-none}
 use Rattle.search.specs.Question.{Asked, Met, caresWithin}
@@ -27,10 +26,6 @@ unfolding has
 has-drop zero vs i h = h
 has-drop (suc k) [] i h = h
 has-drop (suc k) (v ∷ vs) i h = or-right (eqb (v - 1) i) (has-drop k vs i h)
-
--- a row of n inputs has no ones from n up
-pub row-high : (n : ℕ) (r : Row) → isRow n r ≡ true → (i : ℕ) → n ≤ i → bit i (r .value) ≡ false
-row-high n r f i l = row-under n r f i (bit-high n i (r .care) (ltb-true (r .care) (2 ^ n) (and-both (fits n (r .care)) (holds r (r .value)) f .0)) l)
 
 module _ {order : List ℕ} {a b : List ℤ} {rows : List Row} (q : Asked order a b rows) (swift : List ℕ) (o : isOrder (length order) swift ≡ true) where
   is-swift : IsOrder (length order) swift

@@ -1,86 +1,84 @@
 use mathlib.Core.Path.{sym, ap, _∙_}
-use Prim.Native.Nat.{_+_, _≤_}
 use native.Mathlib.Omega.{arith}
+use native.Mathlib.Nat.{min-le-left, min-le-right}
+use lib.ListN.{length}
 use lib.Seq.{length-take-le}
 use borrow.Author.Needs.{needs}
-use Rattle.rules.specs.Answers.{replyOf, after}
-use Rattle.rules.specs.Calls.{cares, values, listValues}
+use Rattle.rules.specs.Calls.{cares, values, whole}
 use Rattle.search.proofs.Queries.{few-inputs}
+use Rattle.building.specs.Built.{builtReply}
 use Rattle.lists.proofs.Forms.{form-good}
-use Rattle.lists.proofs.Lending.{few-barred, both-room}
-use Rattle.lists.proofs.Wholes.{ready, is-refused, stood, fits-care, fits-value, reply-count, left-care, left-value}
+use Rattle.lists.proofs.InForm.{few-kept, both-fit, ready-lent, asked-whole}
+use Rattle.lists.proofs.Wholes.{whole-reply, whole-leaves, whole-stands, whole-fits, whole-left}
 use Rattle.lists.proofs.whole.from_bars.Statement.{statement}
 use Rattle.lists.proofs.whole.from_bars.Tie as tie
 
-bar-requires : tie.Need-bar-requires
-bar-requires c κs =
-    let s = c .before .before .before .before .before .before .before in
-    let g = form-good (s .args .n) (s .args .order .now) (s .args .on .now) (s .args .off .now) (s .pre .0) in
-    (few-inputs _ (g .0), (g .2, (let a = few-barred _ _ (g .2) .0 in omega (arith, s .pre .1 .1 .0))))
-
-bar-both-requires : tie.Need-bar-both-requires
-bar-both-requires c κs =
-    let s = c .before .before .before .before .before .before .before .before .before .before .before in
-    let g = form-good (s .args .n) (s .args .order .now) (s .args .on .now) (s .args .off .now) (s .pre .0) in
-    (few-inputs _ (g .0), (g .3, (g .2, (let a = few-barred _ _ (g .2) .0 in let b = few-barred _ _ (g .3) .0 in omega (arith, s .pre .1 .1 .1)))))
+bar-sheets-requires : tie.Need-bar-sheets-requires
+bar-sheets-requires c κs =
+    let s = c .before .before .before .before .before .before .before .before in
+    let a = s .args in
+    let g = form-good (a .n) (a .order .now) (a .on .now) (a .off .now) (s .pre .0) in
+    (few-inputs _ (g .0), (g .2, (g .3, (s .pre .1 .1 .0, s .pre .1 .1 .1))))
 
 shorter-requires : tie.Need-shorter-requires
 shorter-requires c κs = search needs
 
 add-build : tie.Need-add-build
 add-build c =
-    let t = c .before .before .before in
-    let u = c .before .before .before .before .before .before .before in
-    let s = c .before .before .before .before .before .before .before .before .before .before .before .before .before .before .before in
-    let g = form-good (s .args .n) (s .args .order .now) (s .args .on .now) (s .args .off .now) (s .pre .0) in
-    let e = both-room _ _ _ (g .2) (g .3) _ _ _ _ (u .bar .ensures .1) (t .bar-both .ensures .1) (t .bar-both .ensures .0) (s .pre .1 .1 .1) in
-    let f : t .bar-both .result + u .bar .result ≤ 2048 = (let a = few-barred _ _ (g .2) .1 in let b = few-barred _ _ (g .3) .1 in omega (arith, u .bar .ensures .1, t .bar-both .ensures .1)) in
-    search (needs, f)
+    let b = c .before .before .before .before .before in
+    let s = b .before .before .before .before .before .before .before .before .before in
+    let a = s .args in
+    let e = few-kept (a .n) (a .order .now) (a .on .now) (a .off .now) (s .pre .0) (b .bar-sheets .ensures) in
+    omega (arith, e)
 
 mul-build : tie.Need-mul-build
 mul-build c =
-    let t = c .before .before .before in
-    let u = c .before .before .before .before .before .before .before in
-    let s = c .before .before .before .before .before .before .before .before .before .before .before .before .before .before .before in
-    let g = form-good (s .args .n) (s .args .order .now) (s .args .on .now) (s .args .off .now) (s .pre .0) in
-    let f : t .bar-both .result + u .bar .result ≤ 2048 = (let a = few-barred _ _ (g .2) .1 in let b = few-barred _ _ (g .3) .1 in omega (arith, u .bar .ensures .1, t .bar-both .ensures .1)) in
-    search (needs, f)
+    let b = c .before .before .before .before .before in
+    let s = b .before .before .before .before .before .before .before .before .before in
+    let a = s .args in
+    let e = few-kept (a .n) (a .order .now) (a .on .now) (a .off .now) (s .pre .0) (b .bar-sheets .ensures) in
+    omega (arith, e)
 
 slice-reshare-prefix-build : tie.Need-slice-reshare-prefix-build
 slice-reshare-prefix-build c =
-    let t = c .before .before .before in
-    let u = c .before .before .before .before .before .before .before in
-    let s = c .before .before .before .before .before .before .before .before .before .before .before .before .before .before .before in
-    let g = form-good (s .args .n) (s .args .order .now) (s .args .on .now) (s .args .off .now) (s .pre .0) in
-    both-room _ _ _ (g .2) (g .3) _ _ _ _ (u .bar .ensures .1) (t .bar-both .ensures .1) (t .bar-both .ensures .0) (s .pre .1 .1 .1)
+    let b = c .before .before .before .before .before in
+    let s = b .before .before .before .before .before .before .before .before .before in
+    let a = s .args in
+    both-fit (a .n) (a .order .now) (a .on .now) (a .off .now) (s .pre .0) (b .bar-sheets .ensures)
 
 slice-aggregate-build : tie.Need-slice-aggregate-build
 slice-aggregate-build c =
-    let t = c .before .before .before .before in
-    let u = c .before .before .before .before .before .before .before .before in
-    let s = c .before .before .before .before .before .before .before .before .before .before .before .before .before .before .before .before in
-    let g = form-good (s .args .n) (s .args .order .now) (s .args .on .now) (s .args .off .now) (s .pre .0) in
-    sym (length-take-le _ _ (both-room _ _ _ (g .2) (g .3) _ _ _ _ (u .bar .ensures .1) (t .bar-both .ensures .1) (t .bar-both .ensures .0) (s .pre .1 .1 .1)))
+    let h = c .before in
+    let b = h .before .before .before .before .before in
+    let s = b .before .before .before .before .before .before .before .before .before in
+    let a = s .args in
+    sym (length-take-le _ _ (both-fit (a .n) (a .order .now) (a .on .now) (a .off .now) (s .pre .0) (b .bar-sheets .ensures)))
 
 build-requires : tie.Need-build-requires
 build-requires c κs =
-    let t = c .before .before .before .before .before in
-    let u = c .before .before .before .before .before .before .before .before .before in
-    let s = c .before .before .before .before .before .before .before .before .before .before .before .before .before .before .before .before .before in
-    let g = form-good (s .args .n) (s .args .order .now) (s .args .on .now) (s .args .off .now) (s .pre .0) in
-    ready (s .args .n) (s .args .order .now) (s .args .on .now) (s .args .off .now) (s .pre .0) _ (s .pre .1 .0) _ _ _ _ _ _ (u .bar .ensures .1) (t .bar-both .ensures .1) (u .bar .ensures .0) (t .bar-both .ensures .0) (s .pre .1 .1 .0) (s .pre .1 .1 .1)
+    let h = c .before .before in
+    let b = h .before .before .before .before .before in
+    let s = b .before .before .before .before .before .before .before .before .before in
+    let a = s .args in
+    ready-lent (a .n) (a .order .now) (a .on .now) (a .off .now) (s .pre .0) (b .bar-sheets .ensures) _ (s .pre .1 .0)
 
 enum-known-built : tie.Need-enum-known-built
 enum-known-built c = search needs
 
 copy-behind-requires : tie.Need-copy-behind-requires
 copy-behind-requires c κs =
-    let t = c .before .before .before .before .before .before .before .before .before .before .before .before .before .before in
-    let u = c .before .before .before .before .before .before .before .before .before .before .before .before .before .before .before .before .before .before in
-    let s = c .before .before .before .before .before .before .before .before .before .before .before .before .before .before .before .before .before .before .before .before .before .before .before .before .before .before in
-    let g = form-good (s .args .n) (s .args .order .now) (s .args .on .now) (s .args .off .now) (s .pre .0) in
+    let p = c .before .before .before .before .before .before .before .before in
+    let h = p .before .before .before in
+    let b = h .before .before .before .before .before in
+    let s = b .before .before .before .before .before .before .before .before .before in
+    let a = s .args in
+    let same = asked-whole (a .n) (a .order .now) (a .on .now) (a .off .now) (s .pre .0) (b .bar-sheets .ensures) _ (s .pre .1 .0) _ ∙ ap (whole _ _ _ _) (h .shorter .ensures) in
     let e = c .before .before .before .before .built .given .1 in
-    (stood (s .args .n) (s .args .order .now) (s .args .on .now) (s .args .off .now) (s .pre .0) _ (s .pre .1 .0) _ _ _ _ _ _ (u .bar .ensures .1) (t .bar-both .ensures .1) (u .bar .ensures .0) (t .bar-both .ensures .0) (s .pre .1 .1 .0) (s .pre .1 .1 .1) (s .args .care .now) (s .args .value .now) _ (c .before .before .before .before .before .before .before .before .before .before .before .shorter .ensures) _ _ (c .before .before .before .before .before .before .before .before .build .ensures .0) (c .before .before .before .before .before .before .before .before .build .ensures .1) _ _ e .0, (fits-care (s .args .n) (s .args .order .now) (s .args .on .now) (s .args .off .now) (s .pre .0) _ (s .pre .1 .0) _ _ _ _ _ _ (u .bar .ensures .1) (t .bar-both .ensures .1) (u .bar .ensures .0) (t .bar-both .ensures .0) (s .pre .1 .1 .0) (s .pre .1 .1 .1) (s .args .care .now) (s .args .value .now) _ (c .before .before .before .before .before .before .before .before .before .before .before .shorter .ensures) _ _ (c .before .before .before .before .before .before .before .before .build .ensures .0) (c .before .before .before .before .before .before .before .before .build .ensures .1) _ _ e, fits-value (s .args .n) (s .args .order .now) (s .args .on .now) (s .args .off .now) (s .pre .0) _ (s .pre .1 .0) _ _ _ _ _ _ (u .bar .ensures .1) (t .bar-both .ensures .1) (u .bar .ensures .0) (t .bar-both .ensures .0) (s .pre .1 .1 .0) (s .pre .1 .1 .1) (s .args .care .now) (s .args .value .now) _ (c .before .before .before .before .before .before .before .before .before .before .before .shorter .ensures) _ _ (c .before .before .before .before .before .before .before .before .build .ensures .0) (c .before .before .before .before .before .before .before .before .build .ensures .1) _ _ e))
+    let fits = whole-fits _ _ _ _ _ same (p .build .result) (p .build .ensures .0) _ _ e _ _ (p .build .ensures .1) in
+    let few = h .shorter .ensures in
+    let l = min-le-left (length (a .care .now)) (length (a .value .now)) in
+    let r = min-le-right (length (a .care .now)) (length (a .value .now)) in
+    (whole-stands _ _ _ _ _ same (p .build .result) (p .build .ensures .0) _ _ e _ _ (p .build .ensures .1) .0, (omega (arith, fits), omega (arith, fits)))
 
 enum-known-built-2 : tie.Need-enum-known-built-2
 enum-known-built-2 c = search needs
@@ -99,13 +97,16 @@ same-length-4 c = search needs
 
 returns : tie.Need-returns
 returns c =
-    let t = c .before .before .before .before .before .before .before .before .before .before .before .before .before .before .before .before .before .before .before in
-    let u = c .before .before .before .before .before .before .before .before .before .before .before .before .before .before .before .before .before .before .before .before .before .before .before in
-    let s = c .before .before .before .before .before .before .before .before .before .before .before .before .before .before .before .before .before .before .before .before .before .before .before .before .before .before .before .before .before .before .before in
-    let g = form-good (s .args .n) (s .args .order .now) (s .args .on .now) (s .args .off .now) (s .pre .0) in
+    let p = c .before .before .before .before .before .before .before .before .before .before .before .before .before in
+    let h = p .before .before .before in
+    let b = h .before .before .before .before .before in
+    let s = b .before .before .before .before .before .before .before .before .before in
+    let a = s .args in
+    let same = asked-whole (a .n) (a .order .now) (a .on .now) (a .off .now) (s .pre .0) (b .bar-sheets .ensures) _ (s .pre .1 .0) _ ∙ ap (whole _ _ _ _) (h .shorter .ensures) in
     let e = c .before .before .before .before .before .before .before .before .before .built .given .1 in
-    let p = c .before .before .before .before .copy-behind .ensures in
-    (reply-count (s .args .n) (s .args .order .now) (s .args .on .now) (s .args .off .now) (s .pre .0) _ (s .pre .1 .0) _ _ _ _ _ _ (u .bar .ensures .1) (t .bar-both .ensures .1) (u .bar .ensures .0) (t .bar-both .ensures .0) (s .pre .1 .1 .0) (s .pre .1 .1 .1) (s .args .care .now) (s .args .value .now) _ (c .before .before .before .before .before .before .before .before .before .before .before .before .before .before .before .before .shorter .ensures) _ _ (c .before .before .before .before .before .before .before .before .before .before .before .before .before .build .ensures .0) (c .before .before .before .before .before .before .before .before .before .before .before .before .before .build .ensures .1) _ _ e, (p .0 ∙ left-care (s .args .n) (s .args .order .now) (s .args .on .now) (s .args .off .now) (s .pre .0) _ (s .pre .1 .0) _ _ _ _ _ _ (u .bar .ensures .1) (t .bar-both .ensures .1) (u .bar .ensures .0) (t .bar-both .ensures .0) (s .pre .1 .1 .0) (s .pre .1 .1 .1) (s .args .care .now) (s .args .value .now) _ (c .before .before .before .before .before .before .before .before .before .before .before .before .before .before .before .before .shorter .ensures) _ _ (c .before .before .before .before .before .before .before .before .before .before .before .before .before .build .ensures .0) (c .before .before .before .before .before .before .before .before .before .before .before .before .before .build .ensures .1) _ _ e, p .1 .0 ∙ left-value (s .args .n) (s .args .order .now) (s .args .on .now) (s .args .off .now) (s .pre .0) _ (s .pre .1 .0) _ _ _ _ _ _ (u .bar .ensures .1) (t .bar-both .ensures .1) (u .bar .ensures .0) (t .bar-both .ensures .0) (s .pre .1 .1 .0) (s .pre .1 .1 .1) (s .args .care .now) (s .args .value .now) _ (c .before .before .before .before .before .before .before .before .before .before .before .before .before .before .before .before .shorter .ensures) _ _ (c .before .before .before .before .before .before .before .before .before .before .before .before .before .build .ensures .0) (c .before .before .before .before .before .before .before .before .before .before .before .before .before .build .ensures .1) _ _ e))
+    let copied = c .before .before .before .before .copy-behind .ensures in
+    let left = whole-left _ _ _ _ _ same (p .build .result) (p .build .ensures .0) _ _ e _ _ (p .build .ensures .1) in
+    (sym (ap builtReply e) ∙ whole-reply _ _ _ _ _ same (p .build .result) (p .build .ensures .0), (left cares _ _ (copied .0), left values _ _ (copied .1 .0)))
 
 same-length-5 : tie.Need-same-length-5
 same-length-5 c = search needs
@@ -115,20 +116,21 @@ same-length-6 c = search needs
 
 returns-2 : tie.Need-returns-2
 returns-2 c =
-    let t = c .before .before .before .before .before .before .before .before .before .before .before in
-    let u = c .before .before .before .before .before .before .before .before .before .before .before .before .before .before .before in
-    let s = c .before .before .before .before .before .before .before .before .before .before .before .before .before .before .before .before .before .before .before .before .before .before .before in
-    let g = form-good (s .args .n) (s .args .order .now) (s .args .on .now) (s .args .off .now) (s .pre .0) in
+    let p = c .before .before .before .before .before in
+    let h = p .before .before .before in
+    let b = h .before .before .before .before .before in
+    let s = b .before .before .before .before .before .before .before .before .before in
+    let a = s .args in
+    let same = asked-whole (a .n) (a .order .now) (a .on .now) (a .off .now) (s .pre .0) (b .bar-sheets .ensures) _ (s .pre .1 .0) _ ∙ ap (whole _ _ _ _) (h .shorter .ensures) in
     let e = c .before .built2 .given .1 in
-    let v = is-refused (s .args .n) (s .args .order .now) (s .args .on .now) (s .args .off .now) (s .pre .0) _ (s .pre .1 .0) _ _ _ _ _ _ (u .bar .ensures .1) (t .bar-both .ensures .1) (u .bar .ensures .0) (t .bar-both .ensures .0) (s .pre .1 .1 .0) (s .pre .1 .1 .1) (s .args .care .now) (s .args .value .now) _ (c .before .before .before .before .before .before .before .before .shorter .ensures) _ _ (c .before .before .before .before .before .build .ensures .0) (c .before .before .before .before .before .build .ensures .1) _ e in
-    (ap (replyOf listValues) (sym v), (ap (λ x. after cares x (s .args .care .now)) (sym v), ap (λ x. after values x (s .args .value .now)) (sym v)))
+    let left = whole-leaves _ _ _ _ _ same (p .build .result) (p .build .ensures .0) _ e in
+    (sym (ap builtReply e) ∙ whole-reply _ _ _ _ _ same (p .build .result) (p .build .ensures .0), (left _ _, left _ _))
 
 pub from-bars-spec : {M : Type 1} → statement M
 from-bars-spec =
     tie.close
     (tie.spec
-    bar-requires
-    bar-both-requires
+    bar-sheets-requires
     shorter-requires
     add-build
     mul-build

@@ -1,4 +1,7 @@
+use Prim.Native.Nat.{_≤_}
+use native.Mathlib.Omega.{arith}
 use borrow.Author.Needs.{needs}
+use Rattle.rules.specs.Sheets.{maxClauses}
 use Rattle.search.proofs.Queries.{few-clauses, few-barred, barred-fit, barred-taken, asked, outside-barred}
 use Rattle.search.proofs.calls.satisfied_from.Statement.{statement}
 use Rattle.search.proofs.calls.satisfied_from.Tie as tie
@@ -7,10 +10,13 @@ slice-aggregate-bar : tie.Need-slice-aggregate-bar
 slice-aggregate-bar c = search needs
 
 bar-requires : tie.Need-bar-requires
-bar-requires c κs = let q = c .before .before .pre in (q .0, (q .1 .1, few-clauses _ _ (q .1 .1)))
+bar-requires c κs = let q = c .before .before .pre in (q .0, (q .1 .1, (let k = few-clauses _ _ (q .1 .1) in omega arith)))
 
 mul-end : tie.Need-mul-end
-mul-end c = let k = c .before in let l = few-barred _ _ (k .before .before .before .pre .1 .1) _ (k .bar .ensures .1) in search needs
+mul-end c =
+    let k = c .before in
+    let e : k .bar .result ≤ maxClauses = omega (arith, few-barred _ _ (k .before .before .before .pre .1 .1), k .bar .ensures .1) in
+    search (needs, e)
 
 slice-aggregate-seek-from : tie.Need-slice-aggregate-seek-from
 slice-aggregate-seek-from c = search needs

@@ -37,7 +37,7 @@ fn follow(order: &[u32], start: Setting) -> Row
     row
 }
 
-// The smallest good setting of a row that fixes the variables before the place alone, with 1 at the place where the start has 0.
+// Of a row that fixes the variables before the place alone, the smallest good setting with 1 at the place; none where the start has 1.
 fn above(
     order: &[u32],
     swift: &[u32],

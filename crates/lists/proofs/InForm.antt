@@ -53,8 +53,8 @@ module _ (n : ℕ) (order : List ℕ) (on off : List ℤ) (a1 : isInputs n ≡ t
       (λ t l. barred-asks on t) (λ t l. barred-asks off t) [] k room))
 
 -- What is lent for an input in form, and the call's verdict on it.
-module _ (n : ℕ) (order : List ℕ) (on off : List ℤ) (inForm : formOf n order on off ≡ Form.Good) {kept both : List ℕ} {ons offs : ℕ}
-    (l : Laid on off kept both ons offs) where
+module _ (n : ℕ) (order : List ℕ) (on off : List ℤ) (inForm : formOf n order on off ≡ Form.Good) {old-kept old-both kept both : List ℕ}
+    {ons offs : ℕ} (l : Laid on off old-kept old-both kept both ons offs) where
   formed : (isInputs n ≡ true) × (isOrder n order ≡ true) × (wellFormed n on ≡ true) × (wellFormed n off ≡ true)
   formed = form-good n order on off inForm
 

@@ -101,7 +101,7 @@ module _ (n : ℕ) (order : List ℕ) (on off : List ℤ) (few : n ≤ maxInputs
   off-cares : caresWithin n (barred off) ≡ true
   off-cares = rows-within n (barred off) (barred-rows n off (form-reach n off a4))
 
-  module _ {kept both : List ℕ} {ons offs : ℕ} (l : Laid on off kept both ons offs) where
+  module _ {old-kept old-both kept both : List ℕ} {ons offs : ℕ} (l : Laid on off old-kept old-both kept both ons offs) where
     pub few-rows : offs + ons ≤ 2 * maxClauses
     few-rows =
         let a = few-barred n on a3 in
@@ -120,13 +120,13 @@ module _ (n : ℕ) (order : List ℕ) (on off : List ℤ) (few : n ≤ maxInputs
         let a = few-rows in
         let b = l .both-room in
         let c = rows-size in
-        let e = ap length (l .both-is) ∙ over-length (pairsOf (barred off ++ barred on)) (l .old-both) (omega arith) in
+        let e = ap length (l .both-is) ∙ over-length (pairsOf (barred off ++ barred on)) old-both (omega arith) in
         omega arith
 
     on-first : firstRows ons kept ≡ barred on
     on-first =
-        ap (firstRows ons) (l .kept-is ∙ over-rows (barred on) ons (l .old-kept) (sym (l .many-on)))
-        ∙ first-rows (barred on) (drop (2 * ons) (l .old-kept)) ons (sym (l .many-on))
+        ap (firstRows ons) (l .kept-is ∙ over-rows (barred on) ons old-kept (sym (l .many-on)))
+        ∙ first-rows (barred on) (drop (2 * ons) old-kept) ons (sym (l .many-on))
 
     abbrev run : List ℕ
     run = take (2 * (offs + ons)) both
@@ -134,7 +134,7 @@ module _ (n : ℕ) (order : List ℕ) (on off : List ℤ) (few : n ≤ maxInputs
     run-is : run ≡ pairsOf (barred off ++ barred on)
     run-is =
         ap (take (2 * (offs + ons))) (l .both-is)
-        ∙ take-at (pairsOf (barred off ++ barred on)) (drop (length (pairsOf (barred off ++ barred on))) (l .old-both)) (2 * (offs + ons)) rows-size
+        ∙ take-at (pairsOf (barred off ++ barred on)) (drop (length (pairsOf (barred off ++ barred on))) old-both) (2 * (offs + ons)) rows-size
 
     run-rows : rowsOf run ≡ barred off ++ barred on
     run-rows = ap rowsOf run-is ∙ rows-pairs (barred off ++ barred on)
@@ -150,7 +150,7 @@ module _ (n : ℕ) (order : List ℕ) (on off : List ℤ) (few : n ≤ maxInputs
         let b = pairs-length (barred on) in
         let c = l .many-on in
         let d = l .kept-room in
-        let e = ap length (l .kept-is) ∙ over-length (pairsOf (barred on)) (l .old-kept) (omega arith) in
+        let e = ap length (l .kept-is) ∙ over-length (pairsOf (barred on)) old-kept (omega arith) in
         omega arith
 
     lent-none : Lent order [] [] run offs kept ons

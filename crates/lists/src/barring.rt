@@ -40,7 +40,7 @@ pub fn bar_sheets(n: u32, on: &[i32], off: &[i32], kept: &mut [u32], both: &mut 
     requires { ⌜ wellFormed n (now off) ≡ true ⌝ }
     requires { ⌜ 2 * (maxClauses + maxRows) ≤ length (now kept) ⌝ }
     requires { ⌜ 4 * maxClauses ≤ length (now both) ⌝ }
-    ensures { λ r. ⌜ Laid (now (on .entry)) (now (off .entry)) (now (kept .exit)) (now (both .exit)) (r .ons) (r .offs) ⌝ }
+    ensures { λ r. ⌜ Laid (now (on .entry)) (now (off .entry)) (now (kept .entry)) (now (both .entry)) (now (kept .exit)) (now (both .exit)) (r .ons) (r .offs) ⌝ }
 {
     let ons = bar(n, on, kept);
     let offs = bar_both(n, off, on, both);

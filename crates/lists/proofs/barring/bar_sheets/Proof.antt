@@ -31,8 +31,6 @@ returns c =
     record {
       many-on = b .bar .ensures .1;
       many-off = t .bar-both .ensures .1;
-      old-kept = _;
-      old-both = _;
       kept-is = b .bar .ensures .0;
       both-is = t .bar-both .ensures .0;
       kept-room = p .1 .1 .1 .0;

@@ -1,5 +1,7 @@
 // The words of the trade: what a variable, a place, a setting, a row and a refusal are, and what every call answers.
 // What the calls mean stands in specs/, and what was promised of it in proofs/.
+#![tactic(auto)]
+
 ghost use Rattle.std.specs.Prelude.{◌≡◌, ◌-◌, ◌^◌, ◌≤◌};
 ghost use Rattle.rules.specs.Words.{max_inputs, full, without};
 ghost use Rattle.rules.specs.Sheets.{max_numbers, max_clauses};

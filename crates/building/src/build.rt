@@ -17,7 +17,7 @@ use search::{Found, find_first};
 use swift::swift_order;
 
 // How many rows stay, and how many were generated: those that went are blanks.
-#[derive(Drop)]
+#[derive(Clone, Copy)]
 pub enum Built {
     Rows(usize, usize),
     Refused(Refusal),

@@ -13,7 +13,7 @@ use search::{Found, find_first};
 use swift::swift_order;
 
 // How many rows were generated, and whether generation has no more.
-#[derive(Drop)]
+#[derive(Clone, Copy)]
 pub enum Part {
     Rows(usize, bool),
     Refused(Refusal),

@@ -9,7 +9,7 @@ ghost use Rattle.dimacs.specs.Bodies.{Follows, nothing, counted, body_is, judged
 use crate::token::{Step, Token, next_token};
 
 // A number and the position behind it; the body's end; or a token that is not in form.
-#[derive(Drop)]
+#[derive(Clone, Copy)]
 pub enum Next {
     Number(i32, usize),
     End,
@@ -17,14 +17,14 @@ pub enum Next {
 }
 
 // Of the numbers read: how many, how many of them 0, and whether the last is.
-#[derive(Drop)]
+#[derive(Clone, Copy)]
 pub struct Tally {
     pub numbers: usize,
     pub zeros: usize,
     pub closed: bool,
 }
 
-#[derive(Drop)]
+#[derive(Clone, Copy)]
 pub enum Body {
     Sheet(Tally),
     Bad,

@@ -5,7 +5,7 @@ ghost use Rattle.dimacs.specs.Parts.{is_byte, begins_longer, decimal_of, digits_
 
 use crate::scan::is_digit;
 
-#[derive(Drop)]
+#[derive(Clone, Copy)]
 pub enum Decimal {
     Number(u32),
     Missing,

@@ -9,14 +9,14 @@ use crate::scan::{Kind, Rest, after_all, after_bytes, after_spaces};
 use rules::{Row, Sheet};
 
 // V, C and where the body begins.
-#[derive(Drop)]
+#[derive(Clone, Copy)]
 pub struct Header {
     pub inputs: u32,
     pub clauses: u32,
     pub body: usize,
 }
 
-#[derive(Drop)]
+#[derive(Clone, Copy)]
 pub enum Head {
     Found(Header),
     Missing,
@@ -95,7 +95,7 @@ fn header_end(text: &[u8], at: usize) -> Rest
 }
 
 // A number and the position behind it.
-#[derive(Drop)]
+#[derive(Clone, Copy)]
 pub enum Field {
     Given(u32, usize),
     Missing,

@@ -1,4 +1,6 @@
 // DIMACS CNF texts: a token at a time, and the sheet of a whole text.
+#![tactic(auto)]
+
 mod body;
 mod decimal;
 mod header;

@@ -5,7 +5,7 @@ ghost use Rattle.dimacs.specs.Kinds.{of_kind};
 ghost use Rattle.dimacs.specs.Rests.{rest_of, InText};
 
 // A mark is any byte but a blank.
-#[derive(Drop)]
+#[derive(Clone, Copy)]
 pub enum Kind {
     Space,
     Gap,
@@ -61,7 +61,7 @@ pub fn after_all(kind: Kind, text: &[u8], at: usize) -> usize
 }
 
 // Where the rest of a text begins, or that the text is not in form.
-#[derive(Drop)]
+#[derive(Clone, Copy)]
 pub enum Rest {
     At(usize),
     Missing,

@@ -7,7 +7,7 @@ use crate::decimal::{Decimal, begins_longer, decimal_within, is_byte};
 use crate::scan::{Kind, after_all};
 
 // A number in form, closing zeros with them; `%`, which ends the text; or anything else. 64 bits hold -v..v for every v.
-#[derive(Drop)]
+#[derive(Clone, Copy)]
 pub enum Token {
     Number(i64),
     Percent,
@@ -15,7 +15,7 @@ pub enum Token {
 }
 
 // A token and the position behind it, or that none is left.
-#[derive(Drop)]
+#[derive(Clone, Copy)]
 pub enum Step {
     Token(Token, usize),
     NoneLeft,

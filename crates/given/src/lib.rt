@@ -1,5 +1,7 @@
 // A given list, in two runs of words, is looked at before it is used: refusal 8 is given unless its first `count` rows are
 // there, are at most 256, and are rows of n inputs.
+#![tactic(auto)]
+
 ghost use Rattle.std.specs.Prelude.{◌≡◌, ◌≤◌};
 ghost use Rattle.rules.specs.Words.{max_inputs, is_row};
 ghost use Rattle.rules.specs.Calls.{rows_in};

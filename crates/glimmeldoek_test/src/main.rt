@@ -1,4 +1,6 @@
 // Every case folder: its name, and what is printed for its two sheets. Written by tests/cases.
+#![tactic(auto)]
+
 mod path;
 
 use path::joined;

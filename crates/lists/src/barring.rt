@@ -25,7 +25,7 @@ fn bar_both(n: u32, off: &[i32], on: &[i32], rows: &mut [u32]) -> usize
 }
 
 // How many rows each sheet bars.
-#[derive(Drop)]
+#[derive(Clone, Copy)]
 pub struct Bars {
     pub ons: usize,
     pub offs: usize,

@@ -5,7 +5,7 @@ ghost use Rattle.lists.specs.Formed.{form_of};
 use rules::{Refusal, Row};
 use sheets::{is_order, well_formed};
 
-#[derive(Drop)]
+#[derive(Clone, Copy)]
 pub enum Form {
     Good,
     Refused(Refusal),

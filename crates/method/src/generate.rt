@@ -16,7 +16,7 @@ use rules::Setting;
 use search::{Found, find_from};
 
 // The count of rows, and whether generation has no more.
-#[derive(Drop)]
+#[derive(Clone, Copy)]
 pub struct Generated {
     pub count: usize,
     pub complete: bool,

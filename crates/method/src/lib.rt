@@ -1,5 +1,6 @@
 // The method's steps over the one search: widening, generation and pruning, with the rows in a run of words that is lent. Pruning
 // leaves blanks where rows went, and the others are handed over.
+#![tactic(auto)]
 
 pub mod generate;
 pub mod prune;

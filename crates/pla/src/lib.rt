@@ -1,5 +1,7 @@
 // The PLA writer. Everything is decided before the first byte is written: the refusals in the order of their numbers, and
 // for the last of them the text's length, by arithmetic. A refusal leaves the lent bytes as they were.
+#![tactic(auto)]
+
 mod put;
 mod rows;
 

@@ -1,4 +1,6 @@
 // P5's list in rooms of several lengths, and the longest text.
+#![tactic(auto)]
+
 use rules::WriteAnswer;
 
 // What the call answers, and all of the room after it.

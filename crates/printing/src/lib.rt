@@ -1,4 +1,6 @@
 // What the program prints for two texts.
+#![tactic(auto)]
+
 mod answer;
 mod line;
 mod order;

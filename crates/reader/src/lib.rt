@@ -1,4 +1,6 @@
 // A reader holds a text and its position in it, and gives one token at each step.
+#![tactic(auto)]
+
 ghost use Rattle.std.specs.Prelude.{◌≡◌};
 ghost use Rattle.rules.specs.Dimacs.{step};
 ghost use Rattle.dimacs.specs.Parts.{step_is};

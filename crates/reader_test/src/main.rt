@@ -1,4 +1,6 @@
 // Texts read through a reader: each token and the position behind it, then that none is left, again and again.
+#![tactic(auto)]
+
 use dimacs::{Step, Token};
 
 // The first steps from a position on, over the inputs 1..v.

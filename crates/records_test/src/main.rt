@@ -1,4 +1,6 @@
 // Lists of records: what the call answers, and the marks after it.
+#![tactic(auto)]
+
 use records::Cube;
 use rules::PruneAnswer;
 

@@ -11,7 +11,7 @@ ghost use Rattle.rules.specs.Answers.{refusal_reply};
 ghost use Rattle.rules.specs.Calls.{first};
 
 // A variable's number, 1 up.
-#[derive(Drop)]
+#[derive(Clone, Copy)]
 pub struct Var(pub u32);
 
 impl Var {
@@ -25,15 +25,15 @@ impl Var {
 }
 
 // A place in the order, 0 up. Which variable stands there is the order's affair.
-#[derive(Drop)]
+#[derive(Clone, Copy)]
 pub struct Place(pub usize);
 
 // Bit i - 1 is variable i.
-#[derive(Drop)]
+#[derive(Clone, Copy)]
 pub struct Setting(pub u32);
 
 // Fixes the variables of `care` to their bits of `value`, and leaves the others dashed.
-#[derive(Drop)]
+#[derive(Clone, Copy)]
 pub struct Row {
     pub care: u32,
     pub value: u32,
@@ -82,7 +82,7 @@ impl Row {
 }
 
 // A run of signed numbers; 0 closes a clause.
-#[derive(Drop)]
+#[derive(Clone, Copy)]
 pub struct Sheet;
 
 impl Sheet {
@@ -104,7 +104,7 @@ impl Sheet {
 }
 
 // Rows in two runs of words, care and value.
-#[derive(Drop)]
+#[derive(Clone, Copy)]
 pub struct List;
 
 impl List {
@@ -118,7 +118,7 @@ impl List {
 }
 
 // A run of bytes to be read as a sheet.
-#[derive(Drop)]
+#[derive(Clone, Copy)]
 pub struct Text;
 
 impl Text {
@@ -132,7 +132,7 @@ impl Text {
 }
 
 // Why a call gives no result, in the order of the refusals' numbers.
-#[derive(Drop)]
+#[derive(Clone, Copy)]
 pub enum Refusal {
     Inputs,
     Order,
@@ -186,21 +186,21 @@ impl Refusal {
 }
 
 // The count of a whole list's rows.
-#[derive(Drop)]
+#[derive(Clone, Copy)]
 pub enum ListAnswer {
     Rows(usize),
     Refused(Refusal),
 }
 
 // The count of the rows given, and whether generation has no more.
-#[derive(Drop)]
+#[derive(Clone, Copy)]
 pub enum PartialAnswer {
     Rows(usize, bool),
     Refused(Refusal),
 }
 
 // The smallest setting asked for; finding none is an ordinary answer.
-#[derive(Drop)]
+#[derive(Clone, Copy)]
 pub enum QueryAnswer {
     Found(Setting),
     Nothing,
@@ -208,28 +208,28 @@ pub enum QueryAnswer {
 }
 
 // The count of a given list's rows that stay.
-#[derive(Drop)]
+#[derive(Clone, Copy)]
 pub enum PruneAnswer {
     Kept(usize),
     Refused(Refusal),
 }
 
 // A list's value at a setting: whether some row holds it.
-#[derive(Drop)]
+#[derive(Clone, Copy)]
 pub enum ValueAnswer {
     Value(bool),
     Refused(Refusal),
 }
 
 // The inputs that a text's header names, and the count of its numbers.
-#[derive(Drop)]
+#[derive(Clone, Copy)]
 pub enum ReadAnswer {
     Sheet(u32, usize),
     Refused(Refusal),
 }
 
 // The length of the text written.
-#[derive(Drop)]
+#[derive(Clone, Copy)]
 pub enum WriteAnswer {
     Length(usize),
     Refused(Refusal),

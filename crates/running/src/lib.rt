@@ -1,4 +1,6 @@
 // The program around what is printed: two files in, one text out.
+#![tactic(auto)]
+
 ghost use Rattle.io.specs.Counts.{IsPrefixLen};
 ghost use Rattle.running.specs.Answered.{Answered, Ran};
 

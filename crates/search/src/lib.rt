@@ -1,5 +1,7 @@
 // The one search: the smallest setting of a row, or the smallest not below a start, that satisfies two sheets and lies in none of
 // the kept rows.
+#![tactic(auto)]
+
 mod bounded;
 mod calls;
 mod cut;
@@ -10,7 +12,7 @@ mod step;
 use rules::Setting;
 
 // The setting that was asked for, or none.
-#[derive(Drop)]
+#[derive(Clone, Copy)]
 pub enum Found {
     At(Setting),
     Nothing,

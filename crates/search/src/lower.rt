@@ -14,7 +14,7 @@ use rules::{Place, Row, Setting};
 use sheets::is_one;
 
 // A row that fixes the variables passed, and a good setting that it holds.
-#[derive(Drop)]
+#[derive(Clone, Copy)]
 pub struct Held {
     pub row: Row,
     pub met: Setting,

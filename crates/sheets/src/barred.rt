@@ -13,7 +13,7 @@ use crate::numbers::number_at;
 use rules::Setting;
 
 // A clause as far as it was read: the row that it bars, and whether it has both signs of a variable.
-#[derive(Drop)]
+#[derive(Clone, Copy)]
 pub struct Clause {
     pub care: u32,
     pub value: u32,

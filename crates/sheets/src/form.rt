@@ -13,7 +13,7 @@ use crate::numbers::{number_at, word_at};
 use rules::Sheet;
 
 // Of the numbers read: the clauses, whether the last closed one, and whether all lie in -n..n.
-#[derive(Drop)]
+#[derive(Clone, Copy)]
 pub struct Form {
     pub clauses: usize,
     pub closed: bool,

@@ -1,4 +1,6 @@
 // Sheets read where they are lent, in words or in bytes.
+#![tactic(auto)]
+
 mod barred;
 mod form;
 mod literal;

@@ -1,4 +1,6 @@
 // The value of a given list at a setting: the refusals in the order of their numbers, and then whether some row holds it.
+#![tactic(auto)]
+
 ghost use Rattle.std.specs.Prelude.{[], ◌∷◌, ◌≡◌, ◌≤◌, length, take};
 ghost use Rattle.rules.specs.Words.{one, in_some};
 ghost use Rattle.rules.specs.Answers.{value_reply, reply_of};

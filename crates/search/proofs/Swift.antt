@@ -14,7 +14,7 @@ use Rattle.rules.specs.Words.{max_inputs, is_order, is_row}
 use Rattle.rules.specs.Sheets.{in_reach}
 use Rattle.rules.specs.Search.{smallest}
 use Rattle.rules.proofs.Logic.{clash, fails, option, or_right}
-use Rattle.rules.proofs.Bits.{bit, bit_below}
+use Rattle.rules.proofs.Bits.{bit_below}
 use Rattle.rules.proofs.Orders.{has, IsOrder, is-order}
 use Rattle.rules.proofs.Fixed.{row_under, row-high}
 use Rattle.rules.proofs.Reach.{sound, reach-held, reach-kept}

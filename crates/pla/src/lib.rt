@@ -5,7 +5,6 @@
 mod put;
 mod rows;
 
-// For callers that put other texts together.
 ghost use Rattle.std.specs.Prelude.{[], ◌∷◌, ◌≡◌, ◌+◌, ◌*◌, ◌≤◌, length, take};
 ghost use Rattle.rules.specs.Words.{max_inputs};
 ghost use Rattle.rules.specs.Method.{max_rows};
@@ -17,6 +16,7 @@ ghost use Rattle.pla.specs.Head.{head_of};
 
 use given::given_list;
 use put::digit_count;
+// For callers that put other texts together.
 pub use put::{put_bytes, put_digits};
 use rows::put_rows;
 use rules::{Refusal, Row, WriteAnswer};

@@ -10,6 +10,7 @@ use Rattle.rules.specs.Words.{is_inputs, in_some}
 use Rattle.rules.specs.Answers.{refusal, given, refused}
 use Rattle.rules.specs.Calls.{refusal1, refusal8, refusal9, value}
 use Rattle.rules.proofs.Logic.{yes-not, no-not}
+use Rattle.rules.proofs.Inputs.{inputs-none}
 use Rattle.rules.proofs.Judged.{judge-first, judge-none}
 use Rattle.given.specs.Given.{in_form}
 
@@ -17,6 +18,10 @@ module _ (n count : ℕ) (rows : List Row) (s : ℕ) where
   pub refused-inputs : is_inputs n ≡ false → value n count rows s ≡ refused (refusal 1)
   unfolding value
   refused-inputs a = judge-first (in_some (take count rows) s) [] (refusal1 n) _ tt (yes-not a)
+
+  -- no input at all
+  pub no_input : n < 1 → value n count rows s ≡ refused (refusal 1)
+  no_input l = refused-inputs (inputs-none n l)
 
   pub refused-list : is_inputs n ≡ true → in_form n count rows ≡ false → value n count rows s ≡ refused (refusal 8)
   unfolding value

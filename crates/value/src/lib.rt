@@ -10,6 +10,7 @@ use given::given_list;
 use rules::{Refusal, Row, Setting, ValueAnswer};
 
 // The value of the first `count` rows at the setting.
+#[tactic(auto, using(crate::proofs::Verdict::no_input))]
 pub fn value_at(n: u32, count: usize, care: &[u32], value: &[u32], s: Setting) -> ValueAnswer
     ensures { value_reply result ≡ reply_of (λ b. one b ∷ []) (value_of n count (rows_in care.now value.now) s.0) }
 {

@@ -1,4 +1,4 @@
-use Rattle.std.proofs.Common.{sym, ◌∙◌, arith}
+use Rattle.std.proofs.Common.{sym, ◌∙◌}
 use Rattle.dimacs.proofs.Decimals.{digits_more, digits-bad, digits_above, digits-below, digits-given}
 use Rattle.dimacs.proofs.decimal.digits_within.Goals as goal
 

@@ -1,5 +1,4 @@
-use Rattle.std.proofs.Common.{refl, sym, ◌∙◌, arith}
-use Rattle.rules.proofs.Logic.{not_yes, not-no}
+use Rattle.std.proofs.Common.{sym, ◌∙◌, arith}
 use Rattle.dimacs.proofs.Passing.{pass, stop, stop-end}
 use Rattle.dimacs.proofs.scan.after_all.Goals as goal
 

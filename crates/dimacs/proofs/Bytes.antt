@@ -30,10 +30,6 @@ pub word-ends : (word : List ℕ) (i : ℕ) (t : List ℕ) → length word ≤ i
 unfolding after_bytes
 word-ends word i t l = rw (drop_of_length-le word l)
 
--- the rest begins at a position in the text
-abbrev pub Reached : List ℕ → Option (List ℕ) → ℕ → Type 0
-Reached text o i = (o ≡ some (drop i text)) × (i ≤ length text)
-
 -- what an answer says, once it is known which it is
 module _ (text : List ℕ) (r : Rest) where
   pub rest_at : {o : Option (List ℕ)} {i : ℕ} → rest_of text r ≡ o → r ≡ At i → o ≡ some (drop i text)
@@ -44,6 +40,3 @@ module _ (text : List ℕ) (r : Rest) where
 
   pub in-text : {i : ℕ} → InText text r → r ≡ At i → i ≤ length text
   in-text h f = subst (InText text) f h
-
-  pub reached : {o : Option (List ℕ)} {i : ℕ} → (rest_of text r ≡ o) × InText text r → r ≡ At i → Reached text o i
-  reached h f = (rest_at h.0 f, in-text h.1 f)

@@ -44,9 +44,6 @@ longer b [] p = clash p refl
 longer b (a ∷ []) p = clash p refl
 longer b (a ∷ c ∷ t) p = omega arith
 
-pub digit-bounds : (b : ℕ) → is_digit b ≡ true → (48 ≤ b) × (b ≤ 57)
-digit-bounds b p = let (l, h) = and_both (leb 48 b) (leb b 57) p in (leb-true 48 b l, leb-true b 57 h)
-
 -- bounds: above, below and between
 above : (low high m : ℕ) → high < m → within low high m ≡ none
 above low high m l = let e = lt-leb m high l in test (leb low m) (λ p. rw (p, e)) λ p. rw p

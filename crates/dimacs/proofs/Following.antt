@@ -10,7 +10,7 @@ use lib.IntN.{ℤ, nat_abs}
 use lib.ListN.{length, drop, length-append, length-drop, drop_of_length-le}
 use lib.Seq.{drop_at, drop-drop, drop-length}
 use borrow.Author.Tests.{leb-true, leb-false}
-use Rattle.rules.specs.Dimacs.{is_blank, not_blank, front, after_all, Token, token_of, join_number, numbers, Step, step_in, step}
+use Rattle.rules.specs.Dimacs.{is_blank, not_blank, front, after_all, Token, token_of, join_number, numbers, step_in, step}
 use Rattle.rules.proofs.Tokens.{after_more, after-end, tokens_none, tokens-more}
 use Rattle.rules.proofs.Logic.{test, some-none, some_inj, yes-not}
 use Rattle.dimacs.specs.declared.token.Token as answer

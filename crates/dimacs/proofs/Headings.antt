@@ -17,7 +17,7 @@ use Rattle.dimacs.specs.declared.header.Head.{Head}
 use Rattle.dimacs.specs.declared.header.Head.TheVariants as heads
 use Rattle.dimacs.specs.declared.header.Header as head
 use Rattle.dimacs.specs.Parts.{decimal_within, decimal_of}
-use Rattle.dimacs.specs.Heads.{Numbered, after_return, after_word, opening, number_at, field_of, InField, counts, head_of, InHead}
+use Rattle.dimacs.specs.Heads.{Numbered, after_return, after_word, opening, number_at, field_of, counts, head_of}
 use Rattle.dimacs.proofs.Passing.{front-part}
 use Rattle.dimacs.proofs.Decimals.{decimal-bounds}
 
@@ -25,9 +25,6 @@ use Rattle.dimacs.proofs.Decimals.{decimal-bounds}
 module _ (t g e : List ℕ) (gaps : g ≡ after_all is_gap t) (return : e ≡ after_return g) where
   line-end : line_end e ≡ header_end t
   line-end = ap line_end (return ∙ ap after_return gaps)
-
-  pub ends-text : e ≡ [] → some e ≡ header_end t
-  ends-text p = sym (rw p) ∙ line-end
 
   pub ends-line : {b : ℕ} {u : List ℕ} → e ≡ b ∷ u → after_bytes (10 ∷ []) e ≡ header_end t
   ends-line p = ap (after_bytes (10 ∷ [])) p ∙ ap line_end (sym p) ∙ line-end
@@ -52,9 +49,6 @@ field-given text r e f = sym e ∙ ap (field_of text) f
 
 pub field-missing : (text : List ℕ) (r : Field) {o : Option Numbered} → field_of text r ≡ o → r ≡ field.Missing → o ≡ none
 field-missing text r e f = sym e ∙ ap (field_of text) f
-
-pub in_field : (text : List ℕ) (r : Field) {m i : ℕ} → InField text r → r ≡ field.Given m i → i ≤ length text
-in_field text r h f = subst (InField text) f h
 
 -- a number that is found is at most the upper bound
 pub number-most : (low high : ℕ) (t : List ℕ) {n : Numbered} → number_at low high t ≡ some n → n.number ≤ high
@@ -91,6 +85,3 @@ module _ (text : List ℕ) (r : Head) where
 
   pub head-missing : {o : Option Header} → head_of text r ≡ o → r ≡ heads.Missing → o ≡ none
   head-missing e f = sym e ∙ ap (head_of text) f
-
-  pub in_head : {h : head.Header} → InHead text r → r ≡ heads.Found h → (h.inputs ≤ max_inputs) × (h.body ≤ length text)
-  in_head h f = subst (InHead text) f h

@@ -43,12 +43,6 @@ pub counted-passed : (z : ℤ) (t : Tally) (at place : ℕ) {r : Tally} → r �
 unfolding counted
 counted-passed z t at place e h l = subst (λ x. Passed x place) (sym e) (omega (arith, one-most (closes z)), omega arith)
 
-pub from_nothing : (later : Option (List ℤ)) {r : Tally} → r ≡ nothing → judged nothing later ≡ judged r later
-from_nothing later e = ap (λ t. judged t later) (sym e)
-
-pub nothing-passed : (at : ℕ) {r : Tally} → r ≡ nothing → Passed r at
-nothing-passed at e = subst (λ x. Passed x at) (sym e) (omega arith, omega arith)
-
 -- number by number
 judged-number : (t : Tally) (z : ℤ) (later : Option (List ℤ)) → judged t (prepend z later) ≡ judged (counted z t) later
 unfolding judged prepend counted_all

@@ -8,7 +8,7 @@ use lib.IntN.{pos, negsuc, nat_abs}
 use lib.ListN.{length, take, drop, length-drop}
 use lib.Seq.{take_all}
 use borrow.Author.Tests.{leb-true}
-use Rattle.rules.specs.Dimacs.{decimal, Token, number, ends, other, signed, token_of}
+use Rattle.rules.specs.Dimacs.{Token, number, ends, other, signed, token_of}
 use Rattle.rules.proofs.Logic.{clash}
 use Rattle.rules.proofs.ReadForm.{token_reach, token-reach}
 use Rattle.dimacs.specs.declared.decimal.Decimal.{Decimal}

@@ -12,7 +12,7 @@ use rules::{ReadAnswer, Refusal, Sheet, Text};
 
 // The body behind a header: 12, 13 and 15, and then the numbers.
 fn read_body(h: Header, text: &[u8], numbers: &mut [i32]) -> ReadAnswer
-    requires inputs_le_max_inputs { (h.inputs ≤ max_inputs) × (h.body ≤ length text.now) }
+    requires header_in_bounds { (h.inputs ≤ max_inputs) × (h.body ≤ length text.now) }
     requires text_len_bound { length text.now ≤ max_bytes }
     ensures reply { read_reply result ≡ reply_of read_values (verdict_for h text.now (length numbers.old)) }
     ensures memory { numbers.new ≡ cells_of (verdict_for h text.now (length numbers.old)) numbers.old }

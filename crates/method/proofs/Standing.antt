@@ -1,6 +1,6 @@
 -- The rows behind the first ones of a run, where they stand; and the marks of rows.
 use mathlib.Core.Path.{◌≡◌, refl, sym, ap, ◌∙◌, fun_ext}
-use mathlib.Core.Bool.{Bool}
+use mathlib.Core.Bool.{Bool, cond}
 use mathlib.Core.List.{List, [], ◌∷◌, ◌++◌, append_assoc}
 use Prim.Native.Nat.{ℕ, suc, ◌+◌, ◌-◌, ◌*◌, ◌≤◌}
 use native.Mathlib.Omega.{arith}
@@ -8,7 +8,7 @@ use lib.ListN.{length, take, drop, length-append}
 use lib.Seq.{take_at, drop_at}
 use Rattle.rules.specs.declared.Row.{Row}
 use Rattle.rules.specs.Sheets.{satisfies, every_clause}
-use Rattle.rules.specs.Method.{marks_after, all}
+use Rattle.rules.specs.Method.{marks_after, needed, all}
 use Rattle.rules.specs.Words.{in_some}
 use Rattle.sheets.specs.Barred.{rows_of, pairs_of}
 use Rattle.sheets.proofs.Pairs.{pairs-append, pairs-length}
@@ -26,7 +26,9 @@ all-count = fun_ext (λ s. refl)
 pub marks-length : (counts : ℕ → Bool) (order : List ℕ) (before rest : List Row) → length (marks_after counts order before rest) ≡ length rest
 unfolding marks_after
 marks-length counts order before [] = refl
-marks-length counts order before (r ∷ rest) = ap suc (marks-length counts order _ rest)
+marks-length counts order before (r ∷ rest) =
+    let stays = needed counts order r (before ++ rest) in
+    ap suc (marks-length counts order (cond stays (before ++ (r ∷ [])) before) rest)
 
 -- the rows behind the first ones, where a run begins with both
 pub behind-rows : (first rows : List Row) (rest : List ℕ) (m k : ℕ) → length first ≡ m → length rows ≡ k → behind m k (pairs_of (first ++ rows) ++ rest) ≡ rows

@@ -2,48 +2,52 @@
 #![tactic(auto)]
 
 use rules::WriteAnswer;
+use std::io;
 
 // What the call answers, and all of the room after it.
-fn show(n: u32, count: usize, care: &[u32], value: &[u32], room: &mut [u8]) {
-    answer(pla::write(n, count, care, value, room));
-    io::write_all(1, room);
-    io::write_all(1, b"\n");
+fn show(
+    out: &impl Print,
+    n: u32,
+    count: usize,
+    care: &[u32],
+    value: &[u32],
+    room: &mut [u8],
+) -> io::Result<()> {
+    answer(out, pla::write(n, count, care, value, room))?;
+    out.write_all(room)?;
+    out.write_all(b"\n")
 }
 
-fn answer(a: WriteAnswer) {
+fn answer(out: &impl Print, a: WriteAnswer) -> io::Result<()> {
     match a {
-        WriteAnswer::Length(size) => {
-            io::write_all(1, b"length ");
-            io::print_decimal(1, size as u64);
-        }
+        WriteAnswer::Length(size) => println!(out; "length {size}"),
         WriteAnswer::Refused(refusal) => {
-            io::write_all(1, b"refused ");
-            io::print_decimal(1, refusal.number() as u64);
+            let number = refusal.number();
+            println!(out; "refused {number}")
         }
     }
-    io::write_all(1, b"\n");
 }
 
-fn main() {
+fn main(rt: HostRuntime) -> io::Result<()> {
     let care = [5, 3];
     let value = [0, 1];
     let mut fits = [b'#'; 30];
-    show(3, 2, &care, &value, &mut fits);
+    show(&rt, 3, 2, &care, &value, &mut fits)?;
     let mut more = [b'#'; 34];
-    show(3, 2, &care, &value, &mut more);
+    show(&rt, 3, 2, &care, &value, &mut more)?;
     let mut less = [b'#'; 29];
-    show(3, 2, &care, &value, &mut less);
-    show(0, 3, &care, &value, &mut less);
-    show(3, 3, &care, &value, &mut less);
-    longest();
+    show(&rt, 3, 2, &care, &value, &mut less)?;
+    show(&rt, 0, 3, &care, &value, &mut less)?;
+    show(&rt, 3, 3, &care, &value, &mut less)?;
+    longest(&rt)
 }
 
 // The longest text: 24 inputs and 256 rows.
-fn longest() {
+fn longest(out: &impl Print) -> io::Result<()> {
     let care = [16777215; 256];
     let value = [0; 256];
     let mut room = [0; 6933];
-    answer(pla::write(24, 256, &care, &value, &mut room));
+    answer(out, pla::write(24, 256, &care, &value, &mut room))?;
     let mut less = [0; 6932];
-    answer(pla::write(24, 256, &care, &value, &mut less));
+    answer(out, pla::write(24, 256, &care, &value, &mut less))
 }

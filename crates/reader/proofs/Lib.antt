@@ -1,5 +1,2 @@
--- Laws behind the walks.
-pub mod Holding
-pub mod Loan
-pub mod Stepping
+-- Laws of a reader's steps.
 pub mod Sole

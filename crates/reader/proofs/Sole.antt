@@ -1,7 +1,6 @@
 -- What is promised of a step determines it: two steps that are the same in the words of the rules are equal, and so are two readers that are left behind one.
-use mathlib.Core.Path.{◌≡◌, refl, sym, ◌∙◌, ap}
-use mathlib.Core.Option.{Option, none, some}
-use Prim.Native.Nat.{ℕ}
+use Rattle.std.proofs.Common.{◌≡◌, refl, sym, ◌∙◌, ap, List, ℕ, Bor}
+use Rattle.std.proofs.Math.Option.{Option, none, some}
 use Rattle.rules.specs.Dimacs as rules
 use Rattle.dimacs.specs.Parts.{token_is, step_is}
 use Rattle.dimacs.specs.declared.token.Token.{Token}
@@ -9,8 +8,17 @@ use Rattle.dimacs.specs.declared.token.Token.TheVariants as token
 use Rattle.dimacs.specs.declared.token.Step.{Step}
 use Rattle.dimacs.specs.declared.token.Step.TheVariants as step
 use Rattle.reader.specs.declared.Reader.{Reader}
-use Rattle.reader.proofs.Holding.{reader_at}
-use Rattle.reader.proofs.Stepping.{Steps}
+use Rattle.reader.specs.Moves.{moved}
+
+abbrev pub reader_at : Bor (List ℕ) → ℕ → Reader
+reader_at t p = record { text = t; position = p }
+
+-- what a step from a reader gives, and with it the reader as it is left
+abbrev pub found : ℕ → Reader → Step → Type 0
+found v d r = step_is r ≡ rules.step v d.text.now d.position
+
+abbrev pub Steps : ℕ → Reader → Step → Reader → Type 0
+Steps v d r d' = found v d r × ((d'.text ≡ d.text) × (d'.position ≡ moved v d.text.now d.position))
 
 abbrev token_from : rules.Token → Token
 token_from (rules.number z) = token.Number z

@@ -46,6 +46,7 @@ impl<'a> Reader<'a> {
 }
 
 // The token that is given after k others from a position on, or that none is left: on a plain text, for callers that keep no reader.
+#[tactic(auto, unfolding(crate::specs::Moves::moved_on))]
 pub fn token_after(v: u32, text: &[u8], position: usize, k: usize) -> Step
     ensures { step_is result ≡ step v text.now (moved_on v text.now position k) }
 {

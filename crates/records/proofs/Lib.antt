@@ -5,5 +5,4 @@ pub mod Verdict
 pub mod Copied
 pub mod Written
 pub mod Planned
-pub mod Pruned
-mod Lending
+pub mod Whole

@@ -12,7 +12,7 @@ use crate::plan::{
 use rules::PruneAnswer;
 
 // A row, and whether pruning dropped it.
-#[derive(Drop)]
+#[derive(Clone, Copy)]
 pub struct Cube {
     pub care: u32,
     pub value: u32,
@@ -64,7 +64,7 @@ pub fn prune_records(n: u32, records: &mut [Cube], count: usize) -> PruneAnswer
 }
 
 // The answer, and the records after the call.
-#[derive(Drop)]
+#[derive(Clone, Copy)]
 pub struct Pruned {
     pub answer: PruneAnswer,
     pub records: [Cube; 256],

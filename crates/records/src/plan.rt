@@ -8,7 +8,7 @@ use crate::words::prune_words;
 use rules::{List, PruneAnswer};
 
 // The words of at most 256 records.
-#[derive(Drop)]
+#[derive(Clone, Copy)]
 pub struct Words {
     pub care: [u32; 256],
     pub value: [u32; 256],
@@ -47,7 +47,7 @@ pub fn stop_of(room: usize, count: usize) -> usize
 }
 
 // The answer, how many records are marked, and their marks.
-#[derive(Drop)]
+#[derive(Clone, Copy)]
 pub struct Plan {
     pub answer: PruneAnswer,
     pub marks: usize,

@@ -196,7 +196,7 @@ static void print_head(bool ours, bool abc)
            ROUNDS, ROUNDS);
     printf("on, off: numbers of the sheets. ratio: ours / plain C. growth: time / time of the line above, ours and plain C.\n");
     if (!ours)
-        printf("ours: left out, for target/staticlib/libprobe.a is not there (rt staticlib probe).\n");
+        printf("ours: left out, for crates/probe/out/libprobe.a is not there (rt lib in crates/probe).\n");
     if (abc)
         printf("abc: the best of %d; process start, reading and hashing taken off. *: it took the off settings' list, as the shorter.\n",
                ABC_ROUNDS);

@@ -1,16 +1,15 @@
--- The step, packed: a number is no larger than V.
-use mathlib.Core.Path.{◌≡◌, ◌∙◌, ap}
+use mathlib.Core.Path.{◌≡◌, ap}
 use mathlib.Core.List.{List, [], ◌∷◌}
 use mathlib.Core.Option.{Option}
 use Prim.Native.Nat.{ℕ, ◌≤◌, ◌<◌}
 use native.Mathlib.Omega.{arith}
-use borrow.Author.Rules.{rules}
 use lib.ListN.{length, drop}
 use Rattle.rules.specs.Dimacs.{is_blank, not_blank, front, after_all, Token, number, ends, other, token_of, Step, step_in, step}
 use Rattle.dimacs.proofs.TokenKinds.{Bounded, token-bounded}
-use Rattle.probe.specs.Packed.{packed_step, size_of, size_in}
-use Rattle.probe.proofs.texts.probe_token.Statement.{statement}
-use Rattle.probe.proofs.texts.probe_token.Tie as tie
+use Rattle.probe.specs.Packed.{size_of, size_in}
+use Rattle.probe.proofs.texts.probe_token.Goals as goal
+
+-- The step, packed: a number is no larger than V.
 
 bounded-size : (v : ℕ) (t : Token) → Bounded v t → size_of t ≤ v
 bounded-size v (number z) l = l
@@ -28,14 +27,5 @@ step-size v text at = step-in-size v (length text) (after_all is_blank (drop at 
 small : (v : ℕ) (text : List ℕ) (at : ℕ) {s : Option Step} → s ≡ step v text at → v < 4294967296 → size_in s < 4294967296
 small v text at e l = omega (arith, ap size_in e, step-size v text at)
 
-next-token-requires : tie.Need-next-token-requires
-next-token-requires c κs = search rules
-
-step-reply-requires : tie.Need-step-reply-requires
-step-reply-requires c κs = small _ _ _ c.next-token.ensures c.before.before.ranges.v.fits
-
-returns : tie.Need-returns
-returns c = c.step-reply.ensures ∙ ap packed_step c.before.next-token.ensures
-
-pub probe-token-spec : {M : Type 1} → statement M
-probe-token-spec = tie.close (tie.spec next-token-requires step-reply-requires returns)
+pub step_reply-requires : goal.step_reply-requires
+step_reply-requires c = small _ _ _ c.next_token.ensures c.ranges.v.fits

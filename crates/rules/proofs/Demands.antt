@@ -24,10 +24,10 @@ use Rattle.rules.proofs.Generation.{All, Prime, Fresh, generated-fresh, begins}
 use Rattle.rules.proofs.Counting.{passing, complete-within}
 use Rattle.rules.proofs.Pruning.{Alone, AllAlone, pruned-holds}
 use Rattle.rules.proofs.Turns.{mark_of, kept_of, in-turn}
-use Rattle.rules.proofs.Same.{Same, same_whole, same-partial}
-use Rattle.rules.proofs.PlaText.{text-reads, text-inputs, text-counts}
 use Rattle.rules.proofs.Judged.{NoneApply, Lowest, given-first, refused-leaves}
 use Rattle.rules.proofs.Refusals.{PartialAccepted, partial-accepted, refused-lowest, whole_checks, whole-judges, partial_checks, partial-judges, query_checks, query-judges, prune_checks, prune-judges, value_checks, value-judges, write_checks, write-judges, read_checks, read-judges}
+use Rattle.rules.proofs.Same.{Same, same_whole, same-partial}
+use Rattle.rules.proofs.PlaText.{text-reads, text-inputs, text-counts}
 use Rattle.rules.proofs.Returned.{only-number, collides, Collide, SmallestBoth, NumberOrSmallest, partial_form, whole-reply, whole-both, whole-6, partial-reply, partial-both, partial-6}
 use Rattle.rules.proofs.Listed.{Right, accepted-inputs, accepted-few, accepted-right, decided-value}
 

@@ -10,19 +10,18 @@ pub mod Cut
 pub mod From
 pub mod Widening
 pub mod Generation
-pub mod Table
 pub mod Counting
 pub mod Pruning
 pub mod Turns
-pub mod Sole
-pub mod Judged
-pub mod Refusals
 pub mod Same
 pub mod Lines
 pub mod PlaCount
 pub mod PlaText
 pub mod PlaSteps
 pub mod Tokens
+pub mod Sole
+pub mod Judged
+pub mod Refusals
 pub mod Inputs
 pub mod GivenRows
 pub mod ReadForm
@@ -30,3 +29,4 @@ pub mod Listed
 pub mod Returned
 pub mod Demands
 pub mod Printed
+pub mod Table

@@ -36,9 +36,10 @@ bool smallest_from(const Question *q, uint32_t start, uint32_t *setting);
 /* The rows that the clauses of a well-formed sheet bar. Answers their count. */
 size_t bar(const int32_t *sheet, size_t numbers, Row *barred);
 
-/* The rows generated from barred rows, unpruned, at most MAX_ROWS; more says whether a further one would come.
-   The barred on rows are followed by room for MAX_ROWS rows, and the generated rows stand there afterwards. */
-size_t generate(uint32_t n, const uint32_t *order, Row *on, size_t on_count, const Row *off, size_t off_count, bool *more);
+/* The rows generated from barred rows, unpruned, at most so many; more says whether a further one would come.
+   The barred on rows are followed by room for them, and the generated rows stand there afterwards. */
+size_t generate(uint32_t n, const uint32_t *order, Row *on, size_t on_count, const Row *off, size_t off_count, size_t most,
+                bool *more);
 
 /* Leaves the rows that pruning keeps, in their order. Answers their count. */
 size_t prune(uint32_t n, const uint32_t *order, Row *rows, size_t count);
@@ -52,6 +53,17 @@ typedef struct {
 
 Whole plain_whole(uint32_t n, const uint32_t *order, size_t places, const int32_t *on, size_t on_numbers,
                   const int32_t *off, size_t off_numbers, uint32_t *care, size_t care_room, uint32_t *value, size_t value_room);
+
+typedef struct {
+    uint32_t refusal;   /* as of a whole list */
+    uint32_t setting;
+    size_t count;       /* rows given */
+    bool complete;      /* generation has at most k rows */
+} Partial;
+
+/* The first k generated rows, unpruned. */
+Partial plain_partial(uint32_t n, const uint32_t *order, size_t places, const int32_t *on, size_t on_numbers, const int32_t *off,
+                      size_t off_numbers, size_t k, uint32_t *care, size_t care_room, uint32_t *value, size_t value_room);
 
 /* The search phase alone: every setting of the sheet, each found from the last one on and kept as a full row.
    Answers their count. Through barred rows, which come first in rows; and with the clauses read in place. */

@@ -8,6 +8,7 @@ use crate::answers::{first, host_kind, kind};
 use crate::calls::{Host, Lists};
 use crate::driver::Tally;
 use crate::host::HOST_LIST;
+use crate::itself;
 use crate::pairs::{drawn_pair, drawn_rooms};
 use crate::shrink::pair_shown;
 
@@ -53,7 +54,7 @@ pub fn compare_both(lists: &Lists, host: &Host, count: usize, seed: u64) -> Resu
     let mut tally = Tally::new();
     for number in 1..=count {
         let pair = drawn_pair(&mut random);
-        let (care, value) = drawn_rooms(&mut random, &pair, None);
+        let (care, value) = drawn_rooms(&mut random, &itself::LISTS, &pair, None);
         let care: Vec<u32> = (0..care).map(|_| random.word()).collect();
         let value: Vec<u32> = (0..value).map(|_| random.word()).collect();
         let (words, bytes) = (by_words(lists, &pair, &care, &value), by_bytes(host, &pair, &care, &value));

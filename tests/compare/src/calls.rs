@@ -55,6 +55,8 @@ pub struct Library {
     pub texts: Option<Texts>,
     pub host: Option<Host>,
     pub records: Option<Records>,
+    /// The lists again, where they are quick on up to 24 inputs.
+    pub quick_lists: Option<Lists>,
 }
 
 /// The library that this program was built for.

@@ -4,7 +4,7 @@ use crate::both::compare_both;
 use crate::calls::Library;
 use crate::driver::{Call, Case, Tally};
 use crate::host::{HOST_LIST, HOST_PLA};
-use crate::lists::{PARTIAL, WHOLE};
+use crate::lists::{PARTIAL, PARTIAL_TO_16, PARTIAL_TO_24, WHOLE, WHOLE_TO_16, WHOLE_TO_24};
 use crate::output::OUTPUT;
 use crate::query::QUERY;
 use crate::reading::READ;
@@ -52,6 +52,10 @@ pub fn entries(library: Library) -> Vec<Entry> {
         entry("host", 20_000, HOST_PLA, library.host),
         both(library),
         entry("records", 5_000, PRUNE, library.records),
+        entry("many", 150, WHOLE_TO_16, library.lists),
+        entry("many", 150, PARTIAL_TO_16, library.lists),
+        entry("many", 300, WHOLE_TO_24, library.quick_lists),
+        entry("many", 500, PARTIAL_TO_24, library.quick_lists),
     ];
     all.into_iter().flatten().collect()
 }

@@ -1,4 +1,4 @@
-//! Runs a call's cases by a library and by the second program, and compares the outcomes.
+//! Runs a call's cases by a library and by another program, mostly the second program, and compares the outcomes.
 
 use std::collections::BTreeMap;
 use std::time::{Duration, Instant};
@@ -24,7 +24,7 @@ pub trait Case: Clone {
     /// The outcome in document 01's words.
     fn said(&self, outcome: &Outcome) -> String;
 
-    /// Cases somewhat smaller than this one, each quick enough for the second program.
+    /// Cases somewhat smaller than this one, each quick enough for the other program.
     fn smaller(&self) -> Box<dyn Iterator<Item = Self> + '_>;
 
     /// The case's parts, a line for each.
@@ -57,7 +57,7 @@ pub struct Call<C: Case> {
 pub type Tally = BTreeMap<String, usize>;
 
 impl<C: Case> Call<C> {
-    /// A call by its name, the second program's table, its worked cases, how others are drawn, and the answers to meet.
+    /// A call by its name, the other program's table, its worked cases, how others are drawn, and the answers to meet.
     pub const fn new(
         name: &'static str,
         second: C::Calls,
@@ -115,12 +115,12 @@ impl<C: Case> Call<C> {
         Ok(case.kind(&second))
     }
 
-    /// How the library differs from the second program on this case.
+    /// How the library differs from the other program on this case.
     fn difference(&self, library: &C::Calls, case: &C) -> Option<String> {
         self.differs(case, &case.call(library), &case.call(&self.second))
     }
 
-    /// How the library's outcome differs from the second program's.
+    /// How the library's outcome differs from the other program's.
     fn differs(&self, case: &C, library: &Outcome, second: &Outcome) -> Option<String> {
         let answer = |outcome: &Outcome| format!("{} ({:#018x})", case.kind(outcome), outcome.answer);
         if library.answer != second.answer {

@@ -92,7 +92,7 @@ impl Case for HostListCase {
 /// A pair as bytes, now and then with bytes left over, and rooms near what its list needs.
 fn draw_list(random: &mut Random) -> HostListCase {
     let pair = drawn_pair(random);
-    let (care, value) = drawn_rooms(random, &pair, None);
+    let (care, value) = drawn_rooms(random, &itself::LISTS, &pair, None);
     let (care, value) = (4 * care + random.below(4), 4 * value + random.below(4));
     let over = [left_over(random, 5), left_over(random, 5), left_over(random, 5)];
     HostListCase { pair, over, care: Lent::filled(random, care), value: Lent::filled(random, value) }

@@ -40,7 +40,7 @@ pub const RECORDS: Records = Records { prune: prune_words };
 
 /// Every group, by the second program.
 pub const LIBRARY: Library =
-    Library { query: Some(QUERY), lists: Some(LISTS), texts: Some(TEXTS), host: Some(HOST), records: Some(RECORDS) };
+    Library { query: Some(QUERY), lists: Some(LISTS), texts: Some(TEXTS), host: Some(HOST), records: Some(RECORDS), quick_lists: None };
 
 /// Pruning of records that stand in three word runs: a mark is set unless it is 0, and comes back as 0 or 1.
 fn prune_words(n: u32, count: usize, care: &mut [u32], value: &mut [u32], dropped: &mut [u32]) -> u64 {

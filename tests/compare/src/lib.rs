@@ -1,4 +1,5 @@
-//! Rattle's static library against the second program: every answer, and every cell of the lent runs.
+//! Rattle's static library against the second program, and lists of many inputs against the plain C program of bench/: every answer,
+//! and every cell of the lent runs.
 //!
 //! A call's cases are document 01's worked ones and seeded random ones. Where an outcome differs, the smallest case found is shown.
 
@@ -10,6 +11,7 @@ pub mod both;
 pub mod calls;
 pub mod catalogue;
 pub mod driver;
+pub mod families;
 pub mod host;
 pub mod itself;
 pub mod lent;
@@ -17,6 +19,7 @@ pub mod linked;
 pub mod lists;
 pub mod output;
 pub mod pairs;
+pub mod plain;
 pub mod query;
 pub mod reading;
 pub mod records;

@@ -12,6 +12,10 @@ pub const LIBRARY: Library = Library {
     lists: Some(crate::calls::Lists { whole: lists::whole, partial: lists::partial, value: lists::value }),
     #[cfg(not(feature = "lists"))]
     lists: None,
+    #[cfg(feature = "lists")]
+    quick_lists: Some(crate::calls::Lists { whole: lists::whole, partial: lists::partial, value: lists::value }),
+    #[cfg(not(feature = "lists"))]
+    quick_lists: None,
     #[cfg(feature = "texts")]
     texts: Some(crate::calls::Texts { read: texts::read, token: texts::token, write: texts::write, output: texts::output }),
     #[cfg(not(feature = "texts"))]
@@ -26,63 +30,63 @@ pub const LIBRARY: Library = Library {
     records: None,
 };
 
-/// Functions over the library's: a number passes as it is, a slice as a pointer and then its length.
-#[cfg(any(feature = "query", feature = "lists", feature = "texts", feature = "host", feature = "records"))]
+/// Functions over C functions: a number passes as it is, a slice as a pointer and then its length.
 macro_rules! linked {
-    ($(fn $name:ident = $symbol:ident($($arguments:tt)*);)*) => {
-        $(linked! { $name $symbol [] [] $($arguments)*, })*
+    ($(fn $name:ident = $symbol:ident($($arguments:tt)*) -> $answer:ty;)*) => {
+        $(linked! { $name $symbol $answer [] [] $($arguments)*, })*
     };
-    ($name:ident $symbol:ident [$($given:tt)*] [$($passed:tt)*] $run:ident: &mut [$cell:ty], $($more:tt)*) => {
-        linked! { $name $symbol [$($given)* $run: &mut [$cell],] [$($passed)* *mut $cell = $run.as_mut_ptr(), usize = $run.len(),] $($more)* }
+    ($name:ident $symbol:ident $answer:ty [$($given:tt)*] [$($passed:tt)*] $run:ident: &mut [$cell:ty], $($more:tt)*) => {
+        linked! { $name $symbol $answer [$($given)* $run: &mut [$cell],] [$($passed)* *mut $cell = $run.as_mut_ptr(), usize = $run.len(),] $($more)* }
     };
-    ($name:ident $symbol:ident [$($given:tt)*] [$($passed:tt)*] $run:ident: &[$cell:ty], $($more:tt)*) => {
-        linked! { $name $symbol [$($given)* $run: &[$cell],] [$($passed)* *const $cell = $run.as_ptr(), usize = $run.len(),] $($more)* }
+    ($name:ident $symbol:ident $answer:ty [$($given:tt)*] [$($passed:tt)*] $run:ident: &[$cell:ty], $($more:tt)*) => {
+        linked! { $name $symbol $answer [$($given)* $run: &[$cell],] [$($passed)* *const $cell = $run.as_ptr(), usize = $run.len(),] $($more)* }
     };
-    ($name:ident $symbol:ident [$($given:tt)*] [$($passed:tt)*] $number:ident: $kind:ty, $($more:tt)*) => {
-        linked! { $name $symbol [$($given)* $number: $kind,] [$($passed)* $kind = $number,] $($more)* }
+    ($name:ident $symbol:ident $answer:ty [$($given:tt)*] [$($passed:tt)*] $number:ident: $kind:ty, $($more:tt)*) => {
+        linked! { $name $symbol $answer [$($given)* $number: $kind,] [$($passed)* $kind = $number,] $($more)* }
     };
-    ($name:ident $symbol:ident [$($given:tt)*] [$($kind:ty = $passed:expr,)*]) => {
-        pub fn $name($($given)*) -> u64 {
+    ($name:ident $symbol:ident $answer:ty [$($given:tt)*] [$($kind:ty = $passed:expr,)*]) => {
+        pub fn $name($($given)*) -> $answer {
             extern "C" {
-                fn $symbol($(_: $kind),*) -> u64;
+                fn $symbol($(_: $kind),*) -> $answer;
             }
             // Every pointer and length are those of one live slice, and no two lent slices overlap.
             unsafe { $symbol($($passed),*) }
         }
     };
 }
+pub(crate) use linked;
 
 #[cfg(feature = "query")]
 mod query {
     linked! {
-        fn query = probe_query(n: u32, order: &[u32], sheet: &[i32], start: u32);
+        fn query = probe_query(n: u32, order: &[u32], sheet: &[i32], start: u32) -> u64;
     }
 }
 
 #[cfg(feature = "lists")]
 mod lists {
     linked! {
-        fn whole = probe_whole(n: u32, order: &[u32], on: &[i32], off: &[i32], care: &mut [u32], value: &mut [u32]);
-        fn partial = probe_partial(n: u32, order: &[u32], on: &[i32], off: &[i32], k: usize, care: &mut [u32], value: &mut [u32]);
-        fn value = probe_value(n: u32, count: usize, care: &[u32], value: &[u32], setting: u32);
+        fn whole = probe_whole(n: u32, order: &[u32], on: &[i32], off: &[i32], care: &mut [u32], value: &mut [u32]) -> u64;
+        fn partial = probe_partial(n: u32, order: &[u32], on: &[i32], off: &[i32], k: usize, care: &mut [u32], value: &mut [u32]) -> u64;
+        fn value = probe_value(n: u32, count: usize, care: &[u32], value: &[u32], setting: u32) -> u64;
     }
 }
 
 #[cfg(feature = "texts")]
 mod texts {
     linked! {
-        fn read = probe_read(text: &[u8], numbers: &mut [i32]);
-        fn token = probe_token(v: u32, text: &[u8], at: usize);
-        fn write = probe_write(n: u32, count: usize, care: &[u32], value: &[u32], text: &mut [u8]);
-        fn output = probe_output(on: &[u8], off: &[u8], out: &mut [u8]);
+        fn read = probe_read(text: &[u8], numbers: &mut [i32]) -> u64;
+        fn token = probe_token(v: u32, text: &[u8], at: usize) -> u64;
+        fn write = probe_write(n: u32, count: usize, care: &[u32], value: &[u32], text: &mut [u8]) -> u64;
+        fn output = probe_output(on: &[u8], off: &[u8], out: &mut [u8]) -> u64;
     }
 }
 
 #[cfg(feature = "host")]
 mod host {
     linked! {
-        fn list = glimmeldoek_list(n: u32, order: &[u8], on: &[u8], off: &[u8], care: &mut [u8], value: &mut [u8]);
-        fn pla = glimmeldoek_pla(n: u32, count: u32, care: &[u8], value: &[u8], text: &mut [u8]);
+        fn list = glimmeldoek_list(n: u32, order: &[u8], on: &[u8], off: &[u8], care: &mut [u8], value: &mut [u8]) -> u64;
+        fn pla = glimmeldoek_pla(n: u32, count: u32, care: &[u8], value: &[u8], text: &mut [u8]) -> u64;
     }
 }
 

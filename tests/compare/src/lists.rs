@@ -8,9 +8,11 @@ use second::words::{inputs_in_form, setting_text, Row};
 use crate::answers::{first, kind, second_value};
 use crate::calls::Lists;
 use crate::driver::{Call, Case};
+use crate::families::pair_to_24;
 use crate::itself;
 use crate::lent::{Lent, Outcome};
-use crate::pairs::{drawn_pair, drawn_rooms};
+use crate::pairs::{drawn_pair, drawn_rooms, pair_to_16};
+use crate::plain;
 use crate::shrink::{pair_shown, smaller_pair};
 use crate::worked;
 
@@ -99,25 +101,48 @@ fn twin_of(random: &mut Random, pair: &Pair) -> Option<Pair> {
     in_form.then(|| Pair { n: *n, order: order.clone(), on: reworded(random, *n, on), off: reworded(random, *n, off) })
 }
 
-/// A pair with its twin, and rooms near what the call needs.
-fn draw(random: &mut Random, k: Option<usize>) -> ListCase {
-    let pair = drawn_pair(random);
-    let (care, value) = drawn_rooms(random, &pair, k);
+/// A pair so drawn with its twin, and rooms near what these calls need, for a whole list or a partial one.
+fn draw(random: &mut Random, lists: &Lists, pair: fn(&mut Random) -> Pair, partial: bool) -> ListCase {
+    let k = partial.then(|| rows_asked(random));
+    let pair = pair(random);
+    let (care, value) = drawn_rooms(random, lists, &pair, k);
     let (care, value) = (Lent::filled(random, care), Lent::filled(random, value));
     ListCase { reworded: twin_of(random, &pair), pair, k, care, value }
 }
 
-pub const WHOLE: Call<ListCase> =
-    Call::new("whole", itself::LISTS, worked::whole_lists, |random| draw(random, None), &["rows", "no rows"], &[1, 2, 3, 4, 6, 7, 15]);
-
-pub const PARTIAL: Call<ListCase> = Call::new(
-    "partial",
+pub const WHOLE: Call<ListCase> = Call::new(
+    "whole",
     itself::LISTS,
-    worked::partial_lists,
-    |random| {
-        let k = rows_asked(random);
-        draw(random, Some(k))
-    },
-    &["complete", "not complete"],
-    &[1, 2, 3, 4, 5, 6, 15],
+    worked::whole_lists,
+    |random| draw(random, &itself::LISTS, drawn_pair, false),
+    &["rows", "no rows"],
+    &[1, 2, 3, 4, 6, 7, 15],
 );
+
+pub const PARTIAL: Call<ListCase> = Call {
+    name: "partial",
+    worked: worked::partial_lists,
+    draw: |random| draw(random, &itself::LISTS, drawn_pair, true),
+    results: &["complete", "not complete"],
+    refusals: &[1, 2, 3, 4, 5, 6, 15],
+    ..WHOLE
+};
+
+/// 11 to 16 inputs: few cases, for each takes the second program up to a tenth of a second.
+pub const WHOLE_TO_16: Call<ListCase> = Call {
+    name: "whole-11-to-16",
+    draw: |random| draw(random, &itself::LISTS, pair_to_16, false),
+    results: &["rows"],
+    refusals: &[6, 7, 15],
+    ..WHOLE
+};
+
+pub const PARTIAL_TO_16: Call<ListCase> =
+    Call { name: "partial-11-to-16", draw: |random| draw(random, &itself::LISTS, pair_to_16, true), refusals: &[6, 15], ..PARTIAL };
+
+/// 17 to 24 inputs, of which the second program would go through too many settings: the plain C program answers in its place.
+pub const WHOLE_TO_24: Call<ListCase> =
+    Call { name: "whole-17-to-24", second: plain::LISTS, draw: |random| draw(random, &plain::LISTS, pair_to_24, false), ..WHOLE_TO_16 };
+
+pub const PARTIAL_TO_24: Call<ListCase> =
+    Call { name: "partial-17-to-24", second: plain::LISTS, draw: |random| draw(random, &plain::LISTS, pair_to_24, true), ..PARTIAL_TO_16 };

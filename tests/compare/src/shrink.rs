@@ -55,7 +55,7 @@ pub fn inputs_to_drop(n: u32) -> std::ops::RangeInclusive<u32> {
     1..=if (2..=24).contains(&n) { n } else { 0 }
 }
 
-/// The pair with fewer inputs, clauses or numbers.
+/// The pair with fewer inputs, clauses or numbers; a pair that is answered soon stays so.
 pub fn smaller_pair(pair: &Pair) -> impl Iterator<Item = Pair> + '_ {
     let without = |v: u32| Pair {
         n: pair.n - 1,
@@ -66,7 +66,8 @@ pub fn smaller_pair(pair: &Pair) -> impl Iterator<Item = Pair> + '_ {
     let fewer_inputs = inputs_to_drop(pair.n).map(without);
     let on = smaller_sheet(&pair.on).map(|on| Pair { on, ..pair.clone() });
     let off = smaller_sheet(&pair.off).map(|off| Pair { off, ..pair.clone() });
-    fewer_inputs.chain(on).chain(off).filter(pair_is_quick)
+    let slow = !pair_is_quick(pair);
+    fewer_inputs.chain(on).chain(off).filter(move |pair| slow || pair_is_quick(pair))
 }
 
 /// Whether the second program answers soon: few inputs, or a refusal before it goes through the settings.

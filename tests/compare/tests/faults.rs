@@ -63,7 +63,7 @@ fn widening_by_the_flipped_setting_alone() {
                 }
                 let asked = asked(n, order, on, off);
                 let mut rows: Vec<Row> = Vec::new();
-                while let Some(next) = settings(n, order).into_iter().find(|&s| asked.on[s as usize] && !held(&rows, s)) {
+                while let Some(next) = settings(order).into_iter().find(|&s| asked.on[s as usize] && !held(&rows, s)) {
                     rows.push(widened_by_flips(&asked, next));
                 }
                 lent(&second::method::pruned(n, &rows), care, value)

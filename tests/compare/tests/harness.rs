@@ -1,12 +1,15 @@
 //! The comparison itself: the second program passes, kinds that are not met fail, and the cases are what they are meant to be.
 
 use compare::answers::pack;
-use compare::calls::{Lists, Query};
+use compare::calls::{Library, Lists, Query};
 use compare::catalogue::entries;
 use compare::driver::{Call, Case, Worked};
+use compare::families::pair_to_24;
 use compare::itself::{LIBRARY, LISTS, QUERY as SECOND};
 use compare::lent::Lent;
 use compare::lists::{ListCase, PARTIAL, WHOLE};
+use compare::pairs::pair_to_16;
+use compare::plain::LISTS as PLAIN;
 use compare::query::{QueryCase, QUERY};
 use compare::records::PRUNE;
 use compare::shrink::{fewer, parts, sheet_without, smaller_sheet, word_without};
@@ -16,13 +19,24 @@ use second::random_sheets::Pair;
 use second::sheets::{table, well_formed};
 use second::words::{inputs_in_form, order_in_form, Row};
 
-#[test]
-fn the_second_program_passes() {
-    for entry in entries(LIBRARY) {
+/// Every call of the library is compared 1,500 times, but for those on many inputs, which take long.
+fn all_pass(library: Library) {
+    for entry in entries(library).into_iter().filter(|entry| entry.group != "many") {
         let tally = (entry.run)(1500, 11).unwrap();
         println!("{tally:?}");
         assert_eq!(tally.values().sum::<usize>(), 1500);
     }
+}
+
+#[test]
+fn the_second_program_passes() {
+    all_pass(LIBRARY);
+}
+
+#[test]
+fn the_plain_program_passes() {
+    let lists = Some(PLAIN);
+    all_pass(Library { query: None, lists, texts: None, host: None, records: None, quick_lists: lists });
 }
 
 #[test]
@@ -108,6 +122,22 @@ fn lists_meet_every_room_and_k() {
     println!("{exact} exact, {short} short, {decided} decided, {undecided} undecided, {twins} twins, {turned} turned");
     assert!([exact, short, decided, undecided, twins, turned].iter().all(|&met| met > 200));
     assert!([0, 1, 2, 255, 256, 257].iter().all(|&k| ks[k] > 0) && ks[12..255].iter().sum::<usize>() > 100);
+}
+
+#[test]
+fn many_inputs_are_met() {
+    let mut random = Random::seeded(23);
+    let draws: [(fn(&mut Random) -> Pair, _); 2] = [(pair_to_16, 11..=16), (pair_to_24, 17..=24)];
+    for (draw, inputs) in draws {
+        let mut met = [0; 25];
+        for _ in 0..1000 {
+            let Pair { n, order, on, off } = draw(&mut random);
+            assert!(order_in_form(n, &order) && well_formed(n, &on) && well_formed(n, &off));
+            met[n as usize] += 1;
+        }
+        println!("{met:?}");
+        assert!((0..25).all(|n| (met[n] > 20) == inputs.contains(&n)));
+    }
 }
 
 #[test]

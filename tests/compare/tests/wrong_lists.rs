@@ -6,7 +6,8 @@ use common::caught;
 use compare::answers::{first, pack, second_value};
 use compare::calls::{Lists, Query};
 use compare::itself::{LISTS, QUERY as SECOND};
-use compare::lists::{PARTIAL, WHOLE};
+use compare::lists::{PARTIAL, PARTIAL_TO_16, PARTIAL_TO_24, WHOLE, WHOLE_TO_16, WHOLE_TO_24};
+use compare::plain::LISTS as PLAIN;
 use compare::query::QUERY;
 use compare::value::VALUE;
 
@@ -156,6 +157,34 @@ fn a_partial_list_that_is_pruned() {
 #[test]
 fn a_partial_list_of_any_k() {
     partial(|n, order, on, off, k, care, value| (LISTS.partial)(n, order, on, off, k.min(256), care, value));
+}
+
+/// The answer, with a run of its rows cut to so many bits.
+fn cut(answer: u64, run: &mut [u32], bits: u32) -> u64 {
+    if answer >> 56 == 0 {
+        run[..first(answer) as usize].iter_mut().for_each(|word| *word &= (1 << bits) - 1);
+    }
+    answer
+}
+
+fn whole_cut<const BITS: u32>(n: u32, order: &[u32], on: &[i32], off: &[i32], care: &mut [u32], value: &mut [u32]) -> u64 {
+    cut((PLAIN.whole)(n, order, on, off, care, value), care, BITS)
+}
+
+fn partial_cut<const BITS: u32>(n: u32, order: &[u32], on: &[i32], off: &[i32], k: usize, care: &mut [u32], value: &mut [u32]) -> u64 {
+    cut((PLAIN.partial)(n, order, on, off, k, care, value), value, BITS)
+}
+
+#[test]
+fn lists_of_words_of_12_bits() {
+    caught(WHOLE_TO_16, Lists { whole: whole_cut::<12>, ..PLAIN });
+    caught(PARTIAL_TO_16, Lists { partial: partial_cut::<12>, ..PLAIN });
+}
+
+#[test]
+fn lists_of_words_of_16_bits() {
+    caught(WHOLE_TO_24, Lists { whole: whole_cut::<16>, ..PLAIN });
+    caught(PARTIAL_TO_24, Lists { partial: partial_cut::<16>, ..PLAIN });
 }
 
 #[test]

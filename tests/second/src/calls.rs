@@ -78,7 +78,7 @@ pub fn query(n: u32, order: &[u32], sheet: &[i32], start: u32) -> Answer<Option<
     require(3, well_formed(n, sheet))?;
     require(9, within(n, start))?;
     let not_below = |s: u32| compare(order, s, start) != Ordering::Less;
-    Ok(settings(n, order).into_iter().find(|&s| not_below(s) && satisfies(sheet, s)))
+    Ok(settings(order).into_iter().find(|&s| not_below(s) && satisfies(sheet, s)))
 }
 
 /// Whether rows within the count have no care bits from n up and no value bits outside care.

@@ -1,6 +1,6 @@
 //! The method: next setting, widening, generation and pruning, each over every setting.
 
-use crate::words::{held, settings, Row};
+use crate::words::{settings, Row};
 
 /// The most rows of a list.
 pub const MAX_ROWS: usize = 256;
@@ -16,7 +16,7 @@ pub struct Asked {
 impl Asked {
     /// The smallest setting that satisfies both sheets.
     pub fn collision(&self) -> Option<u32> {
-        settings(self.n, &self.order).into_iter().find(|&s| self.on[s as usize] && self.off[s as usize])
+        settings(&self.order).into_iter().find(|&s| self.on[s as usize] && self.off[s as usize])
     }
 
     /// Whether the row holds an off setting.
@@ -38,14 +38,13 @@ impl Asked {
 
     /// The first generated rows, at most this many.
     pub fn generate(&self, most: usize) -> Vec<Row> {
-        let smallest_first = settings(self.n, &self.order);
+        let mut in_no_row = settings(&self.order);
+        in_no_row.retain(|&s| self.on[s as usize]);
         let mut rows: Vec<Row> = Vec::new();
-        while rows.len() < most {
-            let next = smallest_first.iter().copied().find(|&s| self.on[s as usize] && !held(&rows, s));
-            match next {
-                Some(setting) => rows.push(self.widen(setting)),
-                None => break,
-            }
+        while rows.len() < most && !in_no_row.is_empty() {
+            let row = self.widen(in_no_row[0]);
+            in_no_row.retain(|&s| !row.holds(s));
+            rows.push(row);
         }
         rows
     }

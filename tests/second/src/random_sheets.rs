@@ -129,13 +129,35 @@ pub fn parted_by_clause(random: &mut Random, n: u32) -> (Vec<i32>, Vec<i32>) {
     }
 }
 
+/// Sheets that decide every setting: a few short clauses, and each choice of one literal from every clause, turned round.
+pub fn parted_by_choices(random: &mut Random, n: u32) -> (Vec<i32>, Vec<i32>) {
+    let (mut chosen_from, mut choices) = (Vec::new(), vec![Vec::new()]);
+    for _ in 0..random.between(2, 8) {
+        let length = random.between(1, 4);
+        let next = clause(random, n, length);
+        let longer = |choice: &Vec<i32>| next.iter().map(|&literal| [&choice[..], &[-literal]].concat()).collect::<Vec<_>>();
+        let more: Vec<Vec<i32>> = choices.iter().flat_map(longer).collect();
+        if !fits(&more) {
+            break;
+        }
+        choices = more;
+        chosen_from.push(next);
+    }
+    let (on, off) = (sheet_of_clauses(&chosen_from), sheet_of_clauses(&choices));
+    if random.chance(50) {
+        (off, on)
+    } else {
+        (on, off)
+    }
+}
+
 /// The sheet with variable i called by the i-th of these names.
-fn renamed(sheet: &[i32], names: &[u32]) -> Vec<i32> {
+pub fn renamed(sheet: &[i32], names: &[u32]) -> Vec<i32> {
     sheet.iter().map(|&l| if l == 0 { 0 } else { l.signum() * names[l.unsigned_abs() as usize - 1] as i32 }).collect()
 }
 
 /// Some variables of n, at most so many, each once.
-fn chosen(random: &mut Random, n: u32, most: usize) -> Vec<u32> {
+pub fn chosen(random: &mut Random, n: u32, most: usize) -> Vec<u32> {
     let mut names: Vec<u32> = (1..=n).collect();
     random.shuffle(&mut names);
     names.truncate(most);
@@ -170,6 +192,11 @@ pub fn sharing_a_setting(random: &mut Random, n: u32, on: usize) -> (Vec<i32>, V
 /// A well-formed pair on at most so many inputs: free, parted in one of several ways, or with one shared setting.
 pub fn pair(random: &mut Random, most: u32) -> Pair {
     let n = inputs(random, most);
+    pair_on(random, n)
+}
+
+/// The same on n inputs.
+pub fn pair_on(random: &mut Random, n: u32) -> Pair {
     let names = chosen(random, n, 9);
     let few = names.len() as u32;
     let percent = random.below(101);

@@ -33,12 +33,18 @@ pub fn literal_holds(literal: i32, setting: u32) -> bool {
     bit(setting, literal.unsigned_abs()) == wanted
 }
 
+/// Whether each of the clauses has a literal that is true at the setting.
+fn all_hold(clauses: &[&[i32]], setting: u32) -> bool {
+    clauses.iter().all(|clause| clause.iter().any(|&literal| literal_holds(literal, setting)))
+}
+
 /// Whether the setting satisfies every clause of the sheet.
 pub fn satisfies(sheet: &[i32], setting: u32) -> bool {
-    clauses(sheet).iter().all(|clause| clause.iter().any(|&literal| literal_holds(literal, setting)))
+    all_hold(&clauses(sheet), setting)
 }
 
 /// For each setting of n variables, by its word, whether it satisfies the sheet.
 pub fn table(n: u32, sheet: &[i32]) -> Vec<bool> {
-    (0..1 << n).map(|setting| satisfies(sheet, setting)).collect()
+    let clauses = clauses(sheet);
+    (0..1 << n).map(|setting| all_hold(&clauses, setting)).collect()
 }

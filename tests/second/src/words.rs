@@ -37,10 +37,13 @@ pub fn compare(order: &[u32], a: u32, b: u32) -> Ordering {
     Ordering::Equal
 }
 
-/// Every setting of n variables, smallest first.
-pub fn settings(n: u32, order: &[u32]) -> Vec<u32> {
-    let mut all: Vec<u32> = (0..1 << n).collect();
-    all.sort_by(|&a, &b| compare(order, a, b));
+/// Every setting of the order's variables, smallest first: those with 0 at a place come before those with 1.
+pub fn settings(order: &[u32]) -> Vec<u32> {
+    let mut all = vec![0];
+    for &variable in order.iter().rev() {
+        let with_one: Vec<u32> = all.iter().map(|setting| setting | 1 << (variable - 1)).collect();
+        all.extend(with_one);
+    }
     all
 }
 
@@ -73,9 +76,11 @@ impl Row {
         Row { care: self.care & mask, value: self.value & mask }
     }
 
-    /// Every setting of n variables that the row holds.
+    /// Every setting of n variables that the row holds: the dashed bits count up from all 0 to all 1, and the cared ones stay.
     pub fn settings(self, n: u32) -> impl Iterator<Item = u32> {
-        (0..1 << n).filter(move |&setting| self.holds(setting))
+        let dashed = ((1 << n) - 1) & !self.care;
+        let after = move |&bits: &u32| if bits == dashed { None } else { Some(((bits | !dashed) + 1) & dashed) };
+        std::iter::successors(Some(0), after).map(move |bits| self.value | bits)
     }
 
     /// The row's n characters, variable 1 first.

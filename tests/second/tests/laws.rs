@@ -6,20 +6,33 @@ use second::host::{bytes_of, host_list, host_pla, unsigned, words_of};
 use second::pla::{read_at, write_pla, MAX_PLA};
 use second::program::output;
 use second::random::{
-    damaged_inputs, damaged_order, damaged_row_list, damaged_setting, inputs, lent_words, order, room, row_list, rows_asked, setting,
+    damaged_inputs, damaged_order, damaged_row_list, damaged_setting, inputs, lent_words, order, room, row, row_list, rows_asked, setting,
     Random,
 };
 use second::random_sheets::{damaged_pair, damaged_sheet, full_sheet, pair, parted_by_settings, reworded, sheet, Pair};
 use second::random_texts::{any_text, text};
 use second::refusal::{Answer, Refusal};
 use second::sheets::{table, well_formed};
-use second::words::{compare, held, order_in_form, Row};
+use second::words::{compare, held, order_in_form, settings, Row};
 
 /// The whole list's rows.
 fn list(pair: &Pair) -> Answer<Vec<Row>> {
     let (mut care, mut value) = ([0; 256], [0; 256]);
     let count = whole_list(pair.n, &pair.order, &pair.on, &pair.off, &mut care, &mut value)?;
     Ok((0..count).map(|i| Row { care: care[i], value: value[i] }).collect())
+}
+
+#[test]
+fn settings_come_smallest_first_and_a_row_has_those_it_holds() {
+    let mut random = Random::seeded(12);
+    for _ in 0..100 {
+        let Pair { n, order, .. } = pair(&mut random, 8);
+        let mut all: Vec<u32> = (0..1 << n).collect();
+        all.sort_by(|&a, &b| compare(&order, a, b));
+        assert_eq!(settings(&order), all);
+        let row = row(&mut random, n, 50);
+        assert_eq!(row.settings(n).collect::<Vec<u32>>(), (0..1 << n).filter(|&s| row.holds(s)).collect::<Vec<u32>>());
+    }
 }
 
 #[test]

@@ -1,6 +1,9 @@
 // The two sheets of the folder that it is run in.
 #![tactic(auto)]
 
-fn main() {
-    running::run(b"on.cnf", b"off.cnf");
+use std::io;
+
+fn main(rt: HostRuntime) -> io::Result<()> {
+    running::run(&rt, b"on.cnf", b"off.cnf")?;
+    Ok(())
 }

@@ -4,143 +4,161 @@
 mod path;
 
 use path::joined;
+use std::io;
+use std::rt::Files;
 
-fn case(folder: &[u8]) {
-    io::write_all(1, folder);
-    io::write_all(1, b"\n");
+fn case<R: Files + Print>(rt: &R, folder: &[u8]) -> io::Result<()> {
+    rt.write_all(folder)?;
+    rt.write_all(b"\n")?;
     let mut on = [0; 64];
     let ons = joined(folder, b"/on.cnf", &mut on);
     let mut off = [0; 64];
     let offs = joined(folder, b"/off.cnf", &mut off);
-    running::run(&on[..ons], &off[..offs]);
+    running::run(rt, &on[..ons], &off[..offs])?;
+    Ok(())
 }
 
-fn worked_1() {
-    case(b"p1");
-    case(b"p2");
-    case(b"p3");
-    case(b"p5");
-    case(b"p6");
-    case(b"p7");
+fn worked_1<R: Files + Print>(rt: &R) -> io::Result<()> {
+    case(rt, b"p1")?;
+    case(rt, b"p2")?;
+    case(rt, b"p3")?;
+    case(rt, b"p5")?;
+    case(rt, b"p6")?;
+    case(rt, b"p7")?;
+    Ok(())
 }
 
-fn worked_2() {
-    case(b"p8");
-    case(b"p9");
-    case(b"p10");
-    case(b"p11");
-    case(b"parity_9");
+fn worked_2<R: Files + Print>(rt: &R) -> io::Result<()> {
+    case(rt, b"p8")?;
+    case(rt, b"p9")?;
+    case(rt, b"p10")?;
+    case(rt, b"p11")?;
+    case(rt, b"parity_9")?;
+    Ok(())
 }
 
-fn refusals_1() {
-    case(b"on_10");
-    case(b"on_11");
-    case(b"on_12");
-    case(b"on_13");
-    case(b"on_15");
-    case(b"off_10");
+fn refusals_1<R: Files + Print>(rt: &R) -> io::Result<()> {
+    case(rt, b"on_10")?;
+    case(rt, b"on_11")?;
+    case(rt, b"on_12")?;
+    case(rt, b"on_13")?;
+    case(rt, b"on_15")?;
+    case(rt, b"off_10")?;
+    Ok(())
 }
 
-fn refusals_2() {
-    case(b"off_11");
-    case(b"off_12");
-    case(b"off_13");
-    case(b"off_15");
-    case(b"on_before_off");
-    case(b"off_before_14");
+fn refusals_2<R: Files + Print>(rt: &R) -> io::Result<()> {
+    case(rt, b"off_11")?;
+    case(rt, b"off_12")?;
+    case(rt, b"off_13")?;
+    case(rt, b"off_15")?;
+    case(rt, b"on_before_off")?;
+    case(rt, b"off_before_14")?;
+    Ok(())
 }
 
-fn refusals_3() {
-    case(b"other_inputs");
-    case(b"collision_of_4");
-    case(b"collision_first_variable");
-    case(b"parity_10");
+fn refusals_3<R: Files + Print>(rt: &R) -> io::Result<()> {
+    case(rt, b"other_inputs")?;
+    case(rt, b"collision_of_4")?;
+    case(rt, b"collision_first_variable")?;
+    case(rt, b"parity_10")?;
+    Ok(())
 }
 
-fn headers_1() {
-    case(b"comments");
-    case(b"comment_not_closed");
-    case(b"header_spaces");
-    case(b"header_tab");
-    case(b"header_indented");
-    case(b"header_alone");
+fn headers_1<R: Files + Print>(rt: &R) -> io::Result<()> {
+    case(rt, b"comments")?;
+    case(rt, b"comment_not_closed")?;
+    case(rt, b"header_spaces")?;
+    case(rt, b"header_tab")?;
+    case(rt, b"header_indented")?;
+    case(rt, b"header_alone")?;
+    Ok(())
 }
 
-fn headers_2() {
-    case(b"header_carriage_return");
-    case(b"header_and_more");
-    case(b"header_inputs_zero_first");
-    case(b"header_clauses_zero_first");
-    case(b"header_inputs_0");
-    case(b"header_inputs_25");
+fn headers_2<R: Files + Print>(rt: &R) -> io::Result<()> {
+    case(rt, b"header_carriage_return")?;
+    case(rt, b"header_and_more")?;
+    case(rt, b"header_inputs_zero_first")?;
+    case(rt, b"header_clauses_zero_first")?;
+    case(rt, b"header_inputs_0")?;
+    case(rt, b"header_inputs_25")?;
+    Ok(())
 }
 
-fn headers_3() {
-    case(b"header_clauses_1025");
-    case(b"header_upper_case");
+fn headers_3<R: Files + Print>(rt: &R) -> io::Result<()> {
+    case(rt, b"header_clauses_1025")?;
+    case(rt, b"header_upper_case")?;
+    Ok(())
 }
 
-fn bodies_1() {
-    case(b"line_feeds_after_returns");
-    case(b"tabs");
-    case(b"no_final_line_feed");
-    case(b"one_line");
-    case(b"clause_over_lines");
-    case(b"percent");
+fn bodies_1<R: Files + Print>(rt: &R) -> io::Result<()> {
+    case(rt, b"line_feeds_after_returns")?;
+    case(rt, b"tabs")?;
+    case(rt, b"no_final_line_feed")?;
+    case(rt, b"one_line")?;
+    case(rt, b"clause_over_lines")?;
+    case(rt, b"percent")?;
+    Ok(())
 }
 
-fn bodies_2() {
-    case(b"percent_and_anything");
-    case(b"percent_joined");
-    case(b"percent_in_clause");
-    case(b"comment_after_header");
-    case(b"minus_zero");
-    case(b"plus_one");
+fn bodies_2<R: Files + Print>(rt: &R) -> io::Result<()> {
+    case(rt, b"percent_and_anything")?;
+    case(rt, b"percent_joined")?;
+    case(rt, b"percent_in_clause")?;
+    case(rt, b"comment_after_header")?;
+    case(rt, b"minus_zero")?;
+    case(rt, b"plus_one")?;
+    Ok(())
 }
 
-fn bodies_3() {
-    case(b"zero_first");
-    case(b"two_zeros");
-    case(b"minus_alone");
-    case(b"letters");
+fn bodies_3<R: Files + Print>(rt: &R) -> io::Result<()> {
+    case(rt, b"zero_first")?;
+    case(rt, b"two_zeros")?;
+    case(rt, b"minus_alone")?;
+    case(rt, b"letters")?;
+    Ok(())
 }
 
-fn limits_1() {
-    case(b"not_closed");
-    case(b"count_below");
-    case(b"count_above");
-    case(b"token_before_count");
-    case(b"bytes_32768");
-    case(b"bytes_32769");
+fn limits_1<R: Files + Print>(rt: &R) -> io::Result<()> {
+    case(rt, b"not_closed")?;
+    case(rt, b"count_below")?;
+    case(rt, b"count_above")?;
+    case(rt, b"token_before_count")?;
+    case(rt, b"bytes_32768")?;
+    case(rt, b"bytes_32769")?;
+    Ok(())
 }
 
-fn limits_2() {
-    case(b"numbers_8192");
-    case(b"numbers_8193");
-    case(b"on_missing");
-    case(b"off_missing");
-    case(b"both_missing");
-    case(b"on_a_folder");
+fn limits_2<R: Files + Print>(rt: &R) -> io::Result<()> {
+    case(rt, b"numbers_8192")?;
+    case(rt, b"numbers_8193")?;
+    case(rt, b"on_missing")?;
+    case(rt, b"off_missing")?;
+    case(rt, b"both_missing")?;
+    case(rt, b"on_a_folder")?;
+    Ok(())
 }
 
-fn limits_3() {
-    case(b"on_empty");
-    case(b"off_empty");
+fn limits_3<R: Files + Print>(rt: &R) -> io::Result<()> {
+    case(rt, b"on_empty")?;
+    case(rt, b"off_empty")?;
+    Ok(())
 }
 
-fn main() {
-    worked_1();
-    worked_2();
-    refusals_1();
-    refusals_2();
-    refusals_3();
-    headers_1();
-    headers_2();
-    headers_3();
-    bodies_1();
-    bodies_2();
-    bodies_3();
-    limits_1();
-    limits_2();
-    limits_3();
+fn main(rt: HostRuntime) -> io::Result<()> {
+    worked_1(&rt)?;
+    worked_2(&rt)?;
+    refusals_1(&rt)?;
+    refusals_2(&rt)?;
+    refusals_3(&rt)?;
+    headers_1(&rt)?;
+    headers_2(&rt)?;
+    headers_3(&rt)?;
+    bodies_1(&rt)?;
+    bodies_2(&rt)?;
+    bodies_3(&rt)?;
+    limits_1(&rt)?;
+    limits_2(&rt)?;
+    limits_3(&rt)?;
+    Ok(())
 }

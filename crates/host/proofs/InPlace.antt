@@ -95,9 +95,6 @@ module _ {order on off care value kept words : List ℕ} {built : Built} (p : Bu
     abbrev standing : List Row
     standing = rows_of (take (2 * generated) words)
 
-    pub within : 2 * generated ≤ length words
-    within = let h = left.0 in omega arith
-
     left-rows : solid standing ≡ rows
     left-rows = ap (λ (k : ℕ). solid (first_rows k words)) (sym (zero-add generated)) ∙ left.1 ∙ same_rows
 

@@ -12,8 +12,8 @@ use rules::Row;
 
 // Writes the row's two words as the k-th four bytes of each run.
 fn put_row(row: Row, care: &mut [u8], value: &mut [u8], k: usize)
-    requires k_in_bounds { 4 * k + 4 ≤ length care.old }
-    requires k_in_bounds_2 { 4 * k + 4 ≤ length value.old }
+    requires care_has_room { 4 * k + 4 ≤ length care.old }
+    requires value_has_room { 4 * k + 4 ≤ length value.old }
     ensures care_after { care.new ≡ put (4 * k) (bytes_of (row.care ∷ [])) care.old }
     ensures value_after { value.new ≡ put (4 * k) (bytes_of (row.value ∷ [])) value.old }
 {
@@ -23,8 +23,8 @@ fn put_row(row: Row, care: &mut [u8], value: &mut [u8], k: usize)
 
 // Copies the rows that are no blanks, in order, to the first bytes of the two runs, and gives their count.
 pub fn copy_bytes(rows: &[u32], care: &mut [u8], value: &mut [u8]) -> usize
-    requires rows_in_bounds { length (solid (rows_of rows.now)) ≤ length care.old / 4 }
-    requires rows_in_bounds_2 { length (solid (rows_of rows.now)) ≤ length value.old / 4 }
+    requires care_has_room { length (solid (rows_of rows.now)) ≤ length care.old / 4 }
+    requires value_has_room { length (solid (rows_of rows.now)) ≤ length value.old / 4 }
     ensures care_after { care.new ≡ over (bytes_of (cares (solid (rows_of rows.now)))) care.old }
     ensures value_after { value.new ≡ over (bytes_of (values (solid (rows_of rows.now)))) value.old }
     ensures value { result ≡ length (solid (rows_of rows.now)) }

@@ -1,11 +1,11 @@
 -- The words of the first records, copied out, are those of their rows; and as many are copied as the verdict needs.
 use mathlib.Core.Path.{◌≡◌, refl, sym, ap, ap₂, ◌∙◌}
-use mathlib.Core.Bool.{Bool, true, false, cond, ◌&&◌, and-false}
+use mathlib.Core.Bool.{Bool, true, false, cond, ◌&&◌}
 use mathlib.Core.List.{List, [], ◌∷◌, map, map-append}
 use Prim.Native.Nat.{ℕ, zero, suc, ◌≤◌, ◌<◌}
 use native.Mathlib.Omega.{arith}
 use lib.Dec.{leb}
-use lib.ListN.{length, take, drop, set, length-map, length-set}
+use lib.ListN.{length, take, drop, set, length-map}
 use lib.Seq.{take_at, take-suc, take-take, length-take-le}
 use borrow.Author.Tests.{le-leb, lt-leb, leb-true}
 use Rattle.rules.specs.declared.Row.{Row}
@@ -31,12 +31,6 @@ word_more word ys old k l h =
     ∙ ap (λ (x : List ℕ). over x old) (sym (ap (map word) (take-suc ys k no_cube l) ∙ map-append word (take k ys) (cube_at ys k ∷ [])))
 
 module _ (ys : List Cube) (w : Words) where
-  pub words_size : (k : ℕ) → (length (words_to ys w k).care ≡ length w.care) × (length (words_to ys w k).value ≡ length w.value)
-  words_size zero = (refl, refl)
-  words_size (suc k) =
-      let h = words_size k in
-      (length-set (words_to ys w k).care k (cube_at ys k).care ∙ h.0, length-set (words_to ys w k).value k (cube_at ys k).value ∙ h.1)
-
   words-over : (k : ℕ) → k ≤ length ys → k ≤ length w.care → k ≤ length w.value
       → ((words_to ys w k).care ≡ over (map (λ c. c.care) (take k ys)) w.care) × ((words_to ys w k).value ≡ over (map (λ c. c.value) (take k ys)) w.value)
   words-over zero l a b = (refl, refl)
@@ -68,17 +62,6 @@ words-rows ys w k l a b =
     ap₂ (λ (c v : List ℕ). rows_in (take k c) (take k v)) h.0 h.1
     ∙ ap₂ rows_in (taken (λ c. c.care) ys w.care k l) (taken (λ c. c.value) ys w.value k l)
     ∙ rows_in_lem (take k ys) ∙ map-take k ys
-
--- how many are copied
-module _ (room count : ℕ) where
-  pub stop-room : room < count → 0 ≡ stop_of room count
-  stop-room l = rw (lt-leb count room l)
-
-  pub stop-most : max_rows < count → 0 ≡ stop_of room count
-  stop-most l = rw (lt-leb count max_rows l) (rw (and-false (leb count room)))
-
-  pub stop-count : count ≤ room → count ≤ max_rows → count ≡ stop_of room count
-  stop-count a b = rw (le-leb count room a, le-leb count max_rows b)
 
 -- The verdict looks at no more rows.
 module _ (n count : ℕ) (rows : List Row) where

@@ -6,17 +6,13 @@ use Prim.Native.Nat.{ℕ, zero, suc, ◌≤◌, ◌<◌}
 use native.Mathlib.Nat.{le_of_suc-le-suc, not-suc-le-zero}
 use native.Mathlib.Omega.{arith}
 use lib.Dec.{eqb}
-use lib.ListN.{length, get_or, take, set, length-map, length-set}
+use lib.ListN.{length, get_or, take, set, length-map}
 use lib.Seq.{take-suc, length-take-le}
 use Rattle.rules.specs.Answers.{Verdict, given, refused}
 use Rattle.records.specs.declared.cubes.Cube.{Cube}
 use Rattle.records.specs.Marks.{with_mark, marked_by, marked}
 use Rattle.records.specs.Words.{gone_marks, gone}
 use Rattle.records.specs.Steps.{cube_at, is_marked, marked_to}
-
-pub marked-length : (ys : List Cube) (ms : List ℕ) (k : ℕ) → length (marked_to ys ms k) ≡ length ys
-marked-length ys ms zero = refl
-marked-length ys ms (suc k) = length-set (marked_to ys ms k) k (with_mark (is_marked ms k) (cube_at (marked_to ys ms k) k)) ∙ marked-length ys ms k
 
 -- one mark more
 marked_more : (ds : List Bool) (d : Bool) (ys : List Cube) → length ds < length ys

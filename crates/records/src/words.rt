@@ -29,9 +29,9 @@ fn natural_order(order: &mut [u32], n: u32)
 
 // Lays the first `count` rows out as pairs of words.
 fn lay(care: &[u32], value: &[u32], rows: &mut [u32], count: usize)
-    requires count_in_bounds { count ≤ length care.now }
-    requires count_in_bounds_2 { count ≤ length value.now }
-    requires count_in_bounds_3 { 2 * count ≤ length rows.old }
+    requires care_in_bounds { count ≤ length care.now }
+    requires value_in_bounds { count ≤ length value.now }
+    requires rows_in_bounds { 2 * count ≤ length rows.old }
     ensures { rows.new ≡ over (pairs_of (take count (rows_in care.now value.now))) rows.old }
 {
     let mut k = 0;
@@ -46,7 +46,7 @@ fn lay(care: &[u32], value: &[u32], rows: &mut [u32], count: usize)
 // Prunes the first `count` rows, and gives how many stay. Every setting counts: no sheet is asked.
 fn prune_all(order: &[u32], rows: &mut [u32], count: usize) -> usize
     requires asked { Asked order.now [] [] (first_rows count rows.old) }
-    requires count_in_bounds { 2 * count ≤ length rows.old }
+    requires rows_in_bounds { 2 * count ≤ length rows.old }
     ensures rows_after { rows.new ≡ over (pairs_of (blanked (marks all order.now (first_rows count rows.old)) (first_rows count rows.old))) rows.old }
     ensures value { result ≡ kept (marks all order.now (first_rows count rows.old)) }
 {
@@ -55,8 +55,8 @@ fn prune_all(order: &[u32], rows: &mut [u32], count: usize) -> usize
 
 // Marks each of the first `count` rows that is a blank by 1, the others by 0.
 fn mark(rows: &[u32], dropped: &mut [u32], count: usize)
-    requires count_in_bounds { 2 * count ≤ length rows.now }
-    requires count_in_bounds_2 { count ≤ length dropped.old }
+    requires rows_in_bounds { 2 * count ≤ length rows.now }
+    requires dropped_in_bounds { count ≤ length dropped.old }
     ensures { dropped.new ≡ over (blank_marks (first_rows count rows.now)) dropped.old }
 {
     let mut k = 0;
@@ -81,9 +81,9 @@ fn blank_mark(care: u32, value: u32) -> u32
 
 // Prunes the first `count` rows of the two runs, which are in form: each is marked by 1 in the third if it goes, by 0 if it stays.
 fn prune_given(n: u32, count: usize, care: &[u32], value: &[u32], dropped: &mut [u32]) -> usize
-    requires n_le_max_inputs { n ≤ max_inputs }
-    requires value_value { in_form n count (rows_in care.now value.now) ≡ true }
-    requires care_in_bounds { length care.now ≤ length dropped.old }
+    requires few_inputs { n ≤ max_inputs }
+    requires form { in_form n count (rows_in care.now value.now) ≡ true }
+    requires dropped_in_bounds { length care.now ≤ length dropped.old }
     ensures value { result ≡ kept (marks all (natural n) (take count (rows_in care.now value.now))) }
     ensures dropped_after { dropped.new ≡ over (gone_marks (marks all (natural n) (take count (rows_in care.now value.now)))) dropped.old }
 {
@@ -105,7 +105,7 @@ pub fn prune_words(
     dropped: &mut [u32],
 ) -> PruneAnswer
     requires { length care.now ≤ length dropped.old }
-    ensures result_value { prune_reply result ≡ reply_of (λ m. kept m ∷ []) (prune n count (rows_in care.now value.now)) }
+    ensures answer { prune_reply result ≡ reply_of (λ m. kept m ∷ []) (prune n count (rows_in care.now value.now)) }
     ensures dropped_after { dropped.new ≡ after gone_marks (prune n count (rows_in care.now value.now)) dropped.old }
 {
     if n < 1 {

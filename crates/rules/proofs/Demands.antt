@@ -5,28 +5,31 @@ use mathlib.Core.Bool.{Bool, true, false, ◌&&◌, ◌||◌}
 use mathlib.Core.List.{List, [], ◌∷◌, ◌++◌}
 use mathlib.Core.Logic.{◌⊎◌, inl, inr, ◌↔◌}
 use mathlib.Core.Option.{none, some}
-use Prim.Native.Nat.{ℕ, ◌+◌, ◌^◌, ◌<◌}
+use Prim.Native.Nat.{ℕ, ◌+◌, ◌^◌, ◌<◌, ◌≤◌}
 use lib.IntN.{ℤ}
+use lib.ListN.{length, take, drop}
 use Rattle.rules.specs.declared.Row.{Row}
 use Rattle.rules.specs.Words.{holds, is_row, fixes, dashes, without, smaller, in_some}
 use Rattle.rules.specs.Sheets.{satisfies}
 use Rattle.rules.specs.Search.{smallest}
-use Rattle.rules.specs.Method.{next, generated, pruned, all}
+use Rattle.rules.specs.Method.{max_rows, next, generated, pruned, all}
 use Rattle.rules.specs.Answers.{Reply, Verdict, given, refused, after}
-use Rattle.rules.specs.Pla.{text_of, read_at}
-use Rattle.rules.specs.Calls.{Run, Partial, not_well_formed, collision, whole, partial, query, prune, value, write, read}
+use Rattle.rules.specs.Pla.{text_of, read_at, read_count, rows_read}
+use Rattle.rules.specs.Calls.{Run, Partial, not_well_formed, collision, form, whole, partial, query, prune, value, write, read, cares, values, marked}
 use Rattle.rules.proofs.Rows.{dashes-row}
 use Rattle.rules.proofs.Orders.{IsOrder}
 use Rattle.rules.proofs.Smallest.{smallest-passes, smallest-held, smallest-below, smallest-none, smallest-least}
 use Rattle.rules.proofs.Widening.{Meets}
 use Rattle.rules.proofs.Generation.{All, Prime, Fresh, generated-fresh, begins}
 use Rattle.rules.proofs.Counting.{passing, complete-within}
-use Rattle.rules.proofs.Pruning.{AllAlone, pruned-holds}
+use Rattle.rules.proofs.Pruning.{Alone, AllAlone, pruned-holds}
+use Rattle.rules.proofs.Turns.{mark_of, kept_of, in-turn}
 use Rattle.rules.proofs.Same.{Same, same_whole, same-partial}
-use Rattle.rules.proofs.PlaText.{text-reads, text-inputs}
-use Rattle.rules.proofs.Judged.{Lowest}
+use Rattle.rules.proofs.PlaText.{text-reads, text-inputs, text-counts}
+use Rattle.rules.proofs.Judged.{NoneApply, Lowest, given-first, refused-leaves}
 use Rattle.rules.proofs.Refusals.{PartialAccepted, partial-accepted, refused-lowest, whole_checks, whole-judges, partial_checks, partial-judges, query_checks, query-judges, prune_checks, prune-judges, value_checks, value-judges, write_checks, write-judges, read_checks, read-judges}
-use Rattle.rules.proofs.Listed.{Right, accepted-inputs, accepted-right, decided-value}
+use Rattle.rules.proofs.Returned.{only-number, collides, Collide, SmallestBoth, NumberOrSmallest, partial_form, whole-reply, whole-both, whole-6, partial-reply, partial-both, partial-6}
+use Rattle.rules.proofs.Listed.{Right, accepted-inputs, accepted-few, accepted-right, decided-value}
 
 -- DEMAND 1. Every sheet, order, text and length gets an answer or one of the numbered refusals.
 pub answered-or-refused : {A : Type 0} (v : Verdict A) → ((a : A) × (v ≡ given a)) ⊎ ((r : Reply) × (v ≡ refused r))
@@ -55,9 +58,55 @@ write-refuses n count rows room r = refused-lowest (write-judges n count rows ro
 pub read-refuses : (text : List ℕ) (room : ℕ) (r : Reply) → (read text room ≡ refused r) ↔ Lowest (read_checks text room) r
 read-refuses text room r = refused-lowest (read-judges text room)
 
+-- A result goes to the first cells, and the cells past it stay as they were.
+pub result-lies-first : {A B : Type 0} (cells : A → List B) {v : Verdict A} {a : A} → v ≡ given a → (old : List B)
+    → (take (length (cells a)) (after cells v old) ≡ cells a) × (drop (length (cells a)) (after cells v old) ≡ drop (length (cells a)) old)
+result-lies-first = given-first
+
 -- A refusal leaves each lent buffer holding what it held.
 pub refusal-leaves : {A B : Type 0} (cells : A → List B) (r : Reply) (old : List B) → after cells (refused r) old ≡ old
 refusal-leaves cells r old = refl
+
+-- Each in turn: list building's two runs, the reader's, the writer's and the records'.
+pub whole-leaves : (n : ℕ) (order : Run ℕ) (on off : Run ℤ) (room : ℕ) {r : Reply} (care value : List ℕ) → whole n order on off room ≡ refused r
+    → (after cares (whole n order on off room) care ≡ care) × (after values (whole n order on off room) value ≡ value)
+whole-leaves n order on off room care value e = (refused-leaves cares e care, refused-leaves values e value)
+
+pub partial-leaves : (n : ℕ) (order : Run ℕ) (on off : Run ℤ) (k room : ℕ) {r : Reply} (care value : List ℕ) → partial n order on off k room ≡ refused r
+    → (after (λ p. cares p.rows) (partial n order on off k room) care ≡ care) × (after (λ p. values p.rows) (partial n order on off k room) value ≡ value)
+partial-leaves n order on off k room care value e = (refused-leaves (λ p. cares p.rows) e care, refused-leaves (λ p. values p.rows) e value)
+
+pub read-leaves : (text : List ℕ) (room : ℕ) {r : Reply} (old : List ℤ) → read text room ≡ refused r → after (λ x. x.numbers) (read text room) old ≡ old
+read-leaves text room old e = refused-leaves (λ x. x.numbers) e old
+
+pub write-leaves : (n count : ℕ) (rows : List Row) (room : ℕ) {r : Reply} (old : List ℕ) → write n count rows room ≡ refused r → after (λ t. t) (write n count rows room) old ≡ old
+write-leaves n count rows room old e = refused-leaves (λ t. t) e old
+
+pub prune-leaves : {A : Type 0} (mark : Bool → A → A) (n count : ℕ) (rows : List Row) {r : Reply} (old : List A) → prune n count rows ≡ refused r
+    → marked mark (prune n count rows) old ≡ old
+prune-leaves mark n count rows old e = ap (λ v. marked mark v old) e
+
+-- And it returns only its number, plus, for sheets that collide, the smallest setting both ask for.
+pub whole-returns : (n : ℕ) (order : Run ℕ) (on off : Run ℤ) (room : ℕ) {r : Reply} → whole n order on off room ≡ refused r → NumberOrSmallest n order on off r
+whole-returns = whole-reply
+
+pub partial-returns : (n : ℕ) (order : Run ℕ) (on off : Run ℤ) (k room : ℕ) {r : Reply} → partial n order on off k room ≡ refused r → NumberOrSmallest n order on off r
+partial-returns = partial-reply
+
+pub query-returns : (n : ℕ) (order : Run ℕ) (sheet : Run ℤ) (start : ℕ) {r : Reply} → query n order sheet start ≡ refused r → r.values ≡ []
+query-returns n order sheet start = only-number (query-judges n order sheet start) refl
+
+pub prune-returns : (n count : ℕ) (rows : List Row) {r : Reply} → prune n count rows ≡ refused r → r.values ≡ []
+prune-returns n count rows = only-number (prune-judges n count rows) refl
+
+pub value-returns : (n count : ℕ) (rows : List Row) (s : ℕ) {r : Reply} → value n count rows s ≡ refused r → r.values ≡ []
+value-returns n count rows s = only-number (value-judges n count rows s) refl
+
+pub write-returns : (n count : ℕ) (rows : List Row) (room : ℕ) {r : Reply} → write n count rows room ≡ refused r → r.values ≡ []
+write-returns n count rows room = only-number (write-judges n count rows room) refl
+
+pub read-returns : (text : List ℕ) (room : ℕ) {r : Reply} → read text room ≡ refused r → r.values ≡ []
+read-returns text room = only-number (read-judges text room) refl
 
 -- The smallest setting of a row that passes: it passes, lies in the row, and no other that does is smaller in the order.
 pub record Smallest (n : ℕ) (order : List ℕ) (passes : ℕ → Bool) (r : Row) (s : ℕ) : Type 0 where
@@ -84,6 +133,20 @@ pub collision-is-smallest : (n : ℕ) (order : List ℕ) → IsOrder n order →
     → Smallest n order (λ s. on s && off s) dashes s
 unfolding collision
 collision-is-smallest n order o on off s e = smallest-is n order o (λ s. on s && off s) dashes (dashes-row n) s e
+
+-- Refused 6, exactly if no refusal before it applies and some setting satisfies both sheets; returned is the smallest, `collides s`.
+module _ (n : ℕ) (order : Run ℕ) (on off : Run ℤ) where
+  pub whole-collides : (room : ℕ) → ((s : ℕ) × (whole n order on off room ≡ refused (collides s))) ↔ (NoneApply (form n order on off) × Collide n order on off)
+  whole-collides = whole-both n order on off
+
+  pub whole-collides-at : (room s : ℕ) → (whole n order on off room ≡ refused (collides s)) ↔ (NoneApply (form n order on off) × SmallestBoth n order on off s)
+  whole-collides-at = whole-6 n order on off
+
+  pub partial-collides : (k room : ℕ) → ((s : ℕ) × (partial n order on off k room ≡ refused (collides s))) ↔ (NoneApply (partial_form n order on off k) × Collide n order on off)
+  partial-collides = partial-both n order on off
+
+  pub partial-collides-at : (k room s : ℕ) → (partial n order on off k room ≡ refused (collides s)) ↔ (NoneApply (partial_form n order on off k) × SmallestBoth n order on off s)
+  partial-collides-at = partial-6 n order on off
 
 -- DEMAND 2, for an accepted pair.
 module _ (n : ℕ) (order : Run ℕ) (on off : Run ℤ) (room : ℕ) (rows : List Row) (accepted : whole n order on off room ≡ given rows) where
@@ -122,6 +185,14 @@ module _ (n : ℕ) (order : Run ℕ) (on off : Run ℤ) (room : ℕ) (rows : Lis
   pub text-reads-off : (s : ℕ) → s < 2 ^ n → satisfies off.items s ≡ true → read_at (text_of n rows) s ≡ false
   text-reads-off s l h = text-reads-as-list s l ∙ no-off-setting-held s l h
 
+  -- The `.p` line: the number that is read from it is that of the lines which are rows, and the list's length.
+  pub count-is-read : (read_count (text_of n rows) ≡ some (rows_read (text_of n rows))) × (rows_read (text_of n rows) ≡ length rows)
+  count-is-read = text-counts n rows (accepted-inputs n order on off room rows accepted).0 (accepted-few n order on off room rows accepted)
+
+-- So it is of the text of every list that may be given.
+pub given-count-is-read : (n : ℕ) (rows : List Row) → 1 ≤ n → length rows ≤ max_rows → (read_count (text_of n rows) ≡ some (rows_read (text_of n rows))) × (rows_read (text_of n rows) ≡ length rows)
+given-count-is-read = text-counts
+
 -- Generation: each step brings in at least one on setting not held before; it is complete within as many steps as there are on settings;
 -- the first j rows are the beginning of the first k. Pruning loses no setting.
 module _ (n : ℕ) (order : List ℕ) (o : IsOrder n order) (on off : ℕ → Bool) where
@@ -136,6 +207,10 @@ module _ (n : ℕ) (order : List ℕ) (o : IsOrder n order) (on off : ℕ → Bo
 
   pub pruning-loses-none : (rows : List Row) → All (λ r. is_row n r ≡ true) rows → (s : ℕ) → s < 2 ^ n → in_some (pruned all order rows) s ≡ in_some rows s
   pruning-loses-none rows w s l = pruned-holds order all n o rows w s l refl
+
+  -- Pruning goes through the rows in order: r is kept exactly if it holds a setting that lies in none of those kept before it and in none behind.
+  pub judged-in-turn : (xs : List Row) (r : Row) (ys : List Row) → is_row n r ≡ true → (mark_of all order xs r ys ≡ true) ↔ Alone n all r (kept_of all order xs r ys ++ ys)
+  judged-in-turn = in-turn n order o all
 
 -- Asked for k rows: the first k generated rows, in form and held to the room, and whether generation has at most k.
 pub first-k-given : (n : ℕ) (order : Run ℕ) (on off : Run ℤ) (k room : ℕ) {part : Partial} → partial n order on off k room ≡ given part

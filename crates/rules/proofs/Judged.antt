@@ -6,8 +6,10 @@ use mathlib.Core.Logic.{◌⊎◌, inl, inr, ◌↔◌}
 use Prim.Native.Nat.{ℕ, ◌<◌}
 use native.Mathlib.Omega.{arith}
 use lib.Dec.{ltb}
+use lib.ListN.{length, take, drop}
+use lib.Seq.{take-append_seam, drop-append_seam}
 use borrow.Author.Tests.{ltb-true}
-use Rattle.rules.specs.Answers.{Reply, Check, Verdict, given, refused, judge}
+use Rattle.rules.specs.Answers.{Reply, Check, Verdict, given, refused, judge, after}
 use Rattle.rules.proofs.Logic.{test, either, and_both}
 
 -- No check of the list applies.
@@ -29,6 +31,17 @@ given-inj p = cc
 
 pub refused-inj : {A : Type 0} {r s : Reply} → ◌≡◌ {A = Verdict A} (refused r) (refused s) → r ≡ s
 refused-inj p = cc
+
+-- A result goes to the first cells; those past it stay as they were.
+pub given-first : {A B : Type 0} (cells : A → List B) {v : Verdict A} {a : A} → v ≡ given a → (old : List B)
+    → (take (length (cells a)) (after cells v old) ≡ cells a) × (drop (length (cells a)) (after cells v old) ≡ drop (length (cells a)) old)
+given-first cells {a} e old =
+    let rest = drop (length (cells a)) old in
+    rw e (take-append_seam (cells a) rest, drop-append_seam (cells a) rest)
+
+-- A refusal leaves a lent run as it was.
+pub refused-leaves : {A B : Type 0} (cells : A → List B) {v : Verdict A} {r : Reply} → v ≡ refused r → (old : List B) → after cells v old ≡ old
+refused-leaves cells e old = ap (λ v. after cells v old) e
 
 -- The reply of the first check that applies.
 pub record First (cs : List Check) (r : Reply) : Type 0 where

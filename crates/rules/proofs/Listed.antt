@@ -4,20 +4,22 @@ use mathlib.Core.Bool.{Bool, true, false, ◌&&◌, ◌||◌}
 use mathlib.Core.List.{List, [], ◌∷◌}
 use mathlib.Core.Option.{none}
 use Prim.Native.Nat.{ℕ, ◌^◌, ◌<◌, ◌≤◌}
+use native.Mathlib.Omega.{arith}
 use lib.Dec.{leb}
 use lib.IntN.{ℤ}
+use lib.ListN.{length}
 use borrow.Author.Tests.{leb-true}
 use Rattle.rules.specs.declared.Row.{Row}
 use Rattle.rules.specs.Words.{max_inputs, dashes, in_some}
 use Rattle.rules.specs.Sheets.{satisfies}
-use Rattle.rules.specs.Method.{max_rows, generated, pruned, all, list_of}
+use Rattle.rules.specs.Method.{max_rows, generated, marks, picked, pruned, all, list_of}
 use Rattle.rules.specs.Answers.{given}
 use Rattle.rules.specs.Calls.{Run, collision, are_rows, whole}
 use Rattle.rules.proofs.Logic.{test, clash, and_both, and-join, fails}
 use Rattle.rules.proofs.Rows.{dashes-row, dashes-holds}
 use Rattle.rules.proofs.Orders.{IsOrder, is-order}
 use Rattle.rules.proofs.Smallest.{smallest-none}
-use Rattle.rules.proofs.Generation.{All, Prime, complete-none, next-none, generated-rows, generated-prime}
+use Rattle.rules.proofs.Generation.{All, Prime, size, complete-none, next-none, generated-rows, generated-prime}
 use Rattle.rules.proofs.Pruning.{AllAlone, pruned-holds, pruned-alone, pruned-all}
 use Rattle.rules.proofs.Refusals.{Accepted, whole-accepted}
 
@@ -73,6 +75,26 @@ module _ (n : ℕ) (order : Run ℕ) (on off : Run ℤ) (room : ℕ) (rows : Lis
         primes = primes;
         alone = pruned-alone order.items all n o (generated order.items f g max_rows) all-rows;
       })
+
+-- Pruning leaves no more rows.
+pruned-fewer : (counts : ℕ → Bool) (order : List ℕ) (rows : List Row) → length (pruned counts order rows) ≤ length rows
+unfolding picked pruned
+pruned-fewer counts order rows = picked-fewer (marks counts order rows) rows
+  where
+    picked-fewer : (m : List Bool) (rows : List Row) → length (picked m rows) ≤ length rows
+    picked-fewer [] rows = omega arith
+    picked-fewer (b ∷ m) [] = omega arith
+    picked-fewer (true ∷ m) (r ∷ rows) = omega (arith, picked-fewer m rows)
+    picked-fewer (false ∷ m) (r ∷ rows) = omega (arith, picked-fewer m rows)
+
+-- A list that is given has no more rows than a list may have.
+pub accepted-few : (n : ℕ) (order : Run ℕ) (on off : Run ℤ) (room : ℕ) (rows : List Row) → whole n order on off room ≡ given rows → length rows ≤ max_rows
+unfolding list_of
+accepted-few n order on off room rows h =
+    let made = generated order.items (satisfies on.items) (satisfies off.items) max_rows in
+    let few : length (pruned all order.items made) ≤ max_rows =
+    omega (arith, pruned-fewer all order.items made, (size order.items (satisfies on.items) (satisfies off.items) max_rows).0) in
+    subst (λ (xs : List Row). length xs ≤ max_rows) (whole-accepted n order on off room h).rows few
 
 -- Where every setting is decided, the list's value is whether the setting is on.
 pub decided-value : (n : ℕ) (on off : ℕ → Bool) (rows : List Row) → Right n on off rows → ((s : ℕ) → s < 2 ^ n → (on s || off s) ≡ true)

@@ -2,6 +2,7 @@
 use mathlib.Core.Path.{◌≡◌, refl, ap, sym, ◌∙◌}
 use mathlib.Core.Bool.{Bool, true, false, cond, ◌&&◌, ◌||◌}
 use mathlib.Core.List.{List, [], ◌∷◌, ◌++◌, append_assoc}
+use mathlib.Core.Option.{Option, some}
 use Prim.Native.Char.{code}
 use Prim.Native.Nat.{ℕ, zero, suc, ◌+◌, ◌-◌, ◌*◌, ◌^◌, ◌≤◌, ◌<◌}
 use native.Mathlib.Nat.{suc-mul, mul-le-mul}
@@ -11,13 +12,15 @@ use lib.Dec.{eqb, ltb}
 use lib.ListN.{length, length-append}
 use borrow.Author.Tests.{eqb-true, eqb-false, ltb-true, ltb-false}
 use Rattle.rules.specs.declared.Row.{Row}
-use Rattle.rules.specs.Words.{is_one, fits, holds, is_row, fixes, in_some}
+use Rattle.rules.specs.Words.{one, is_one, fits, holds, is_row, fixes, in_some}
+use Rattle.rules.specs.Method.{max_rows}
 use Rattle.rules.specs.Calls.{are_rows}
 use Rattle.rules.specs.Dimacs.{ascii, digits_from}
-use Rattle.rules.specs.Pla.{digits, bit_char, row_chars, row_lines, text_of, lines, agrees, line_holds, is_row_line, some_line, read_at}
+use Rattle.rules.specs.Pla.{digits, bit_char, row_chars, row_lines, text_of, lines, agrees, line_holds, is_row_line, some_line, read_at, read_count, rows_among, rows_read}
 use Rattle.rules.proofs.Logic.{test, clash, and_both, and-join, both_ways, yes-not, some_inj}
 use Rattle.rules.proofs.Bits.{bit, bit-and, bit_high}
 use Rattle.rules.proofs.Rows.{holds-bits, bits-holds}
+use Rattle.rules.proofs.PlaCount.{body, text-lines, text-count}
 use Rattle.rules.proofs.Lines.{plain, plain_more, plain-append, lines-line, digits-plain, digits-read, digits-two, digits-three}
 
 -- a row's character for a variable that it fixes or not, and at this value
@@ -171,6 +174,35 @@ pub text-inputs : (n m : ℕ) (xs ys : List Row) → n ≤ 24 → m ≤ 24 → t
 text-inputs n m xs ys a b e =
     let same : digits n ≡ digits m = cc ((text-first n xs).1, (text-first m ys).1) in
     some_inj (sym (digits-read n (omega arith)) ∙ ap (digits_from 0) same ∙ digits-read m (omega arith))
+
+-- a row's line is the first of a text that begins with it
+row_first : (n : ℕ) (r : Row) (t : List ℕ) → lines (row_chars 1 n r ++ (ascii " 1\n" ++ t)) ≡ (row_chars 1 n r ++ ascii " 1") ∷ lines t
+unfolding plain
+row_first n r t =
+    ap lines (sym (append_assoc (row_chars 1 n r) (ascii " 1") (code "\n" ∷ t)))
+    ∙ lines-line (row_chars 1 n r ++ ascii " 1") t (plain-append (row_chars 1 n r) (ascii " 1") (row_chars-plain 1 n r) refl)
+
+-- the rows' lines
+body-rows : (n : ℕ) (rows : List Row) → 1 ≤ n → rows_among (lines (body n rows)) ≡ length rows
+unfolding row_lines lines rows_among
+body-rows n [] l = refl
+body-rows n (r ∷ rows) l =
+    let last : 1 + rows_among (lines (body n rows)) ≡ suc (length rows) = omega (arith, body-rows n rows l) in
+    ap (λ t. rows_among (lines t)) (append_assoc (row_chars 1 n r) (ascii " 1\n" ++ row_lines n rows) (ascii ".e\n"))
+    ∙ ap rows_among (row_first n r (body n rows))
+    ∙ ap (λ b. one b + rows_among (lines (body n rows))) (row-is_line n r l)
+    ∙ last
+
+text-rows : (n : ℕ) (rows : List Row) → 1 ≤ n → rows_read (text_of n rows) ≡ length rows
+unfolding rows_read rows_among
+text-rows n rows l =
+    let rest : 0 + (0 + (0 + rows_among (lines (body n rows)))) ≡ length rows = omega (arith, body-rows n rows l) in
+    ap rows_among (text-lines n rows) ∙ rest
+
+-- The number read is that of the lines which are rows, and that of the rows.
+pub text-counts : (n : ℕ) (rows : List Row) → 1 ≤ n → length rows ≤ max_rows
+    → (read_count (text_of n rows) ≡ some (rows_read (text_of n rows))) × (rows_read (text_of n rows) ≡ length rows)
+text-counts n rows l few = let all = text-rows n rows l in (text-count n rows (omega arith) ∙ ap {B = Option ℕ} some (sym all), all)
 
 -- the bytes of a row, of all rows, and of a text
 pub row-size : (v k : ℕ) (r : Row) → length (row_chars v k r) ≡ k

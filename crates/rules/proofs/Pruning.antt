@@ -2,6 +2,7 @@
 use mathlib.Core.Path.{◌≡◌, sym, ap, ◌∙◌, subst}
 use mathlib.Core.Bool.{Bool, true, false, not, cond, ◌&&◌}
 use mathlib.Core.List.{List, [], ◌∷◌, ◌++◌, append_assoc}
+use mathlib.Core.Logic.{◌↔◌}
 use Prim.Native.Nat.{ℕ, ◌^◌, ◌<◌}
 use Rattle.rules.specs.declared.Row.{Row}
 use Rattle.rules.specs.Words.{holds, is_row, in_some}
@@ -71,6 +72,12 @@ module _ (order : List ℕ) (counts : ℕ → Bool) where
     needed-no r others w e s l c h =
         test (in_some others s) (λ q. q)
         (λ q. clash (and-join c (yes-not q)) (some-no n order o (λ s. counts s && not (in_some others s)) r w e s l h))
+
+    pub needed-alone : (r : Row) (others : List Row) → is_row n r ≡ true → (needed counts order r others ≡ true) ↔ Alone n counts r others
+    needed-alone r others w = (
+      needed-yes r others w,
+      λ a. test (needed counts order r others) (λ q. q) λ q. clash (needed-no r others w q a.0 a.1 a.2 a.3) a.4,
+    )
 
     left_alone : (kept rest : List Row) → All (λ r. is_row n r ≡ true) rest → AllAlone n counts kept (left kept rest)
     left_alone kept [] w = unfold marks_after picked in tt

@@ -1,17 +1,18 @@
 -- The smallest setting is the smallest: it passes, lies in the row, and none that does so is smaller; and none means none.
-use mathlib.Core.Path.{◌≡◌, refl, sym, ap, ◌∙◌}
+use mathlib.Core.Path.{◌≡◌, refl, sym, ap, ◌∙◌, subst}
 use mathlib.Core.Bool.{Bool, true, false}
 use mathlib.Core.List.{List, [], ◌∷◌}
-use mathlib.Core.Option.{none, some}
-use Prim.Native.Nat.{ℕ, ◌^◌, ◌<◌, ◌≤◌}
+use mathlib.Core.Logic.{◌↔◌}
+use mathlib.Core.Option.{Option, none, some}
+use Prim.Native.Nat.{ℕ, ◌-◌, ◌^◌, ◌<◌, ◌≤◌}
 use native.Mathlib.Omega.{arith}
-use lib.Dec.{ltb}
-use borrow.Author.Tests.{ltb-true, ltb-false}
+use lib.Dec.{eqb, ltb}
+use borrow.Author.Tests.{eqb-true, ltb-true, ltb-false}
 use Rattle.rules.specs.declared.Row.{Row}
 use Rattle.rules.specs.Words.{is_one, before, smaller, holds, is_row, dashes, at_zero, at_one}
 use Rattle.rules.specs.Search.{found, smallest, holds_some, not_below}
-use Rattle.rules.proofs.Logic.{test, either, option, clash, fails}
-use Rattle.rules.proofs.Bits.{bit, bit_high, bit_below}
+use Rattle.rules.proofs.Logic.{test, either, option, clash, fails, or_cases}
+use Rattle.rules.proofs.Bits.{bit, bit-ext, bit_high, bit_below}
 use Rattle.rules.proofs.Rows.{dashes-row}
 use Rattle.rules.proofs.Orders.{has, IsOrder}
 use Rattle.rules.proofs.Fixed.{Under, row_under, row-high, fixed-under}
@@ -43,6 +44,27 @@ least P (v ∷ vs) r w t u h (turn f true s) p =
     (λ e. rw (turn-bit true v vs r u w f s, turn-bit true v vs r t w f (sound P vs (at_one v r) t e.1).1)
     (least P vs (at_one v r) (fixed-under true v r w f) t u e.1 s p))
 
+-- two settings of which neither is smaller are alike in every variable of the order
+neither : (b c later other : Bool) → before b c later ≡ false → before c b other ≡ false → (b ≡ c) × (later ≡ false) × (other ≡ false)
+neither true true later other p q = (refl, p, q)
+neither true false later other p q = clash refl q
+neither false true later other p q = clash refl p
+neither false false later other p q = (refl, p, q)
+
+alike : (vs : List ℕ) (s t : ℕ) → smaller vs s t ≡ false → smaller vs t s ≡ false → (i : ℕ) → has i vs ≡ true → bit i s ≡ bit i t
+unfolding smaller has
+alike [] s t p q i h = clash h refl
+alike (v ∷ vs) s t p q i h =
+    let (e, p', q') = neither (is_one v s) (is_one v t) (smaller vs s t) (smaller vs t s) p q in
+    either (or_cases (eqb (v - 1) i) (has i vs) h) (λ k. subst (λ j. bit j s ≡ bit j t) (eqb-true (v - 1) i k) e) (alike vs s t p' q' i)
+
+-- A setting is the smallest one of a row that passes: it passes, lies in the row, and no other that does is smaller in the order.
+pub record Least (n : ℕ) (order : List ℕ) (passes : ℕ → Bool) (r : Row) (s : ℕ) : Type 0 where
+  pub below : s < 2 ^ n
+  pub held : holds r s ≡ true
+  pub passed : passes s ≡ true
+  pub least : (u : ℕ) → u < 2 ^ n → holds r u ≡ true → passes u ≡ true → smaller order u s ≡ false
+
 module _ (n : ℕ) (order : List ℕ) (o : IsOrder n order) where
   -- no variable of the order has a bit from n up
   outside : (i : ℕ) → n ≤ i → has i order ≡ false
@@ -73,6 +95,23 @@ module _ (n : ℕ) (order : List ℕ) (o : IsOrder n order) where
 
     pub smallest-least : (t : ℕ) → smallest P order r ≡ some t → (u : ℕ) → u < 2 ^ n → holds r u ≡ true → P u ≡ true → smaller order u t ≡ false
     smallest-least t e u l h p = least P order r (row_under n r is_row) t u e (reach-all r is_row u l h) p
+
+    -- what is found is the smallest, and the smallest is found: there is one
+    found-is : (t : ℕ) → smallest P order r ≡ some t → Least n order P r t
+    found-is t e = record { below = smallest-below t e; held = smallest-held t e; passed = smallest-passes t e; least = smallest-least t e }
+
+    one-smallest : (s t : ℕ) → Least n order P r s → Least n order P r t → s ≡ t
+    one-smallest s t a b = bit-ext (λ i. test (ltb i n)
+        (λ q. alike order s t (b.least s a.below a.held a.passed) (a.least t b.below b.held b.passed) i (o.every i (ltb-true i n q)))
+        (λ q. bit_high n i s a.below (ltb-false i n q) ∙ sym (bit_high n i t b.below (ltb-false i n q))))
+
+    is_found : (t : ℕ) → Least n order P r t → smallest P order r ≡ some t
+    is_found t m = option (smallest P order r)
+        (λ q. clash m.passed (smallest-none q t m.below m.held))
+        (λ u q. q ∙ ap {B = Option ℕ} some (one-smallest u t (found-is u q) m))
+
+    pub found-smallest : (t : ℕ) → (smallest P order r ≡ some t) ↔ Least n order P r t
+    found-smallest t = (found-is t, is_found t)
 
     -- a row holds a setting that passes, or none
     pub some-yes : holds_some P order r ≡ true → (t : ℕ) × (t < 2 ^ n) × (holds r t ≡ true) × (P t ≡ true)

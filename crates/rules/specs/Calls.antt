@@ -1,5 +1,5 @@
 -- The calls: the outcome of each, its refusals in the order of their numbers, and what each lent run holds afterwards.
-use mathlib.Core.{Bool.Bool, Bool.true, Bool.false, Bool.not, Bool.◌&&◌, List.List, List.[], List.◌∷◌, List.◌++◌, List.map}
+use mathlib.Core.{Bool.Bool, Bool.true, Bool.not, Bool.◌&&◌, List.List, List.[], List.◌∷◌, List.◌++◌, List.map}
 use mathlib.Core.{Option.Option, Option.none, Option.some, Option.get_or}
 use Rattle.std.specs.Prelude.{ℕ, ◌+◌, ◌*◌, ◌/◌, ◌%◌, min}
 use lib.{Dec.eqb, Dec.leb, Dec.ltb, IntN.ℤ, ListN.length, ListN.take}
@@ -7,8 +7,8 @@ use mir.{Syntax.w32, Val.to_z}
 use Rattle.rules.specs.{declared.Row.Row, Words.is_inputs, Words.is_order, Words.is_row, Words.fits, Words.dashes, Words.in_some, Words.natural}
 use Rattle.rules.specs.{Words.one, Sheets.max_numbers, Sheets.well_formed, Sheets.satisfies, Sheets.clauses, Sheets.ends_closed, Search.smallest}
 use Rattle.rules.specs.{Search.found, Search.not_below, Method.max_rows, Method.generated, Method.complete, Method.list_of, Method.marks, Method.all}
-use Rattle.rules.specs.{Answers.Reply, Answers.Check, Answers.check, Answers.Verdict, Answers.judge, Dimacs.max_bytes, Dimacs.header}
-use Rattle.rules.specs.{Dimacs.numbers, Dimacs.tokens, Pla.text_of}
+use Rattle.rules.specs.{Answers.Reply, Answers.Check, Answers.check, Answers.Verdict, Answers.given, Answers.refused, Answers.judge}
+use Rattle.rules.specs.{Dimacs.max_bytes, Dimacs.header, Dimacs.numbers, Dimacs.tokens, Pla.text_of}
 
 -- How a run is lent. Words stand as they are; in bytes a word is four, lowest first, and one to three may be left over. A number is
 -- signed by its 32 bits.
@@ -176,6 +176,17 @@ values rows = map (λ r. r.value) rows
 
 abbrev pub room_in : List ℕ → List ℕ → ℕ
 room_in care value = min (length care) (length value)
+
+-- What pruning leaves in a lent run of records, by what writes a mark into one: each within the count is kept if its row stays, else
+-- dropped, and those behind stay as they were. A refusal leaves all as it was.
+unfoldable pub marked_by : {A : Type 0} → (Bool → A → A) → List Bool → List A → List A
+marked_by mark [] records = records
+marked_by mark (d ∷ ds) [] = []
+marked_by mark (d ∷ ds) (c ∷ records) = mark d c ∷ marked_by mark ds records
+
+abbrev pub marked : {A : Type 0} → (Bool → A → A) → Verdict (List Bool) → List A → List A
+marked mark (given stays) records = marked_by mark (map not stays) records
+marked mark (refused r) records = records
 
 -- The C host lends bytes, and is answered the refusal's number times 2 ^ 32 plus the first value.
 abbrev pub host_whole : ℕ → List ℕ → List ℕ → List ℕ → List ℕ → List ℕ → Verdict (List Row)

@@ -1,9 +1,10 @@
 -- PLA text: what is written for a list, and, apart from that, what a text says at a setting.
+-- And how many rows a text says it has.
 use mathlib.Core.{Bool.Bool, Bool.true, Bool.false, Bool.not, Bool.cond, Bool.◌&&◌, Bool.◌||◌}
-use mathlib.Core.{List.List, List.[], List.◌∷◌, List.◌++◌}
+use mathlib.Core.{List.List, List.[], List.◌∷◌, List.◌++◌, Option.Option, Option.none, Option.some}
 use Prim.Native.{Char.code, Nat.ℕ, Nat.zero, Nat.suc, Nat.◌+◌, Nat.◌/◌, Nat.◌%◌}
 use lib.{Dec.eqb, Dec.ltb, ListN.length}
-use Rattle.rules.specs.{declared.Row.Row, Words.is_one, Words.fixes, Dimacs.ascii}
+use Rattle.rules.specs.{declared.Row.Row, Words.is_one, Words.fixes, Words.one, Dimacs.ascii, Dimacs.after_bytes, Dimacs.decimal}
 
 -- The digits of a number below 1,000, without leading zeros.
 abbrev pub digit : ℕ → ℕ
@@ -73,3 +74,23 @@ some_line (l ∷ ls) s = (is_row_line l && line_holds 1 l s) || some_line ls s
 -- A setting reads as 1 if some row holds it, else 0.
 unfoldable pub read_at : List ℕ → ℕ → Bool
 read_at text s = some_line (lines text) s
+
+-- The number on the `.p` line: the decimal that all of its line behind the space is, or none where there is no such line.
+abbrev pub count_or : Option (List ℕ) → Option ℕ → Option ℕ
+count_or none later = later
+count_or (some count) later = decimal count
+
+unfoldable pub count_line : List (List ℕ) → Option ℕ
+count_line [] = none
+count_line (l ∷ ls) = let later = count_line ls in count_or (after_bytes (ascii ".p ") l) later
+
+unfoldable pub read_count : List ℕ → Option ℕ
+read_count text = count_line (lines text)
+
+-- How many lines are rows.
+unfoldable pub rows_among : List (List ℕ) → ℕ
+rows_among [] = 0
+rows_among (l ∷ ls) = one (is_row_line l) + rows_among ls
+
+unfoldable pub rows_read : List ℕ → ℕ
+rows_read text = rows_among (lines text)

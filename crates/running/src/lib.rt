@@ -1,44 +1,56 @@
 // The program around what is printed: two files in, one text out.
 #![tactic(auto)]
 
-ghost use Rattle.io.specs.Counts.{IsPrefixLen};
+ghost use Rattle.std.specs.Prelude.{◌≤◌, length, IfOk};
 ghost use Rattle.running.specs.Answered.{Answered, Ran};
 
 use rules::Text;
+use std::fs::File;
+use std::io;
+use std::io::Read;
+use std::rt::Files;
 
 // One byte more than a text may have: a longer file is refused, not cut.
 const ROOM: usize = Text::MAX_BYTES + 1;
 
-// The file's bytes, as many as the room holds; none where it cannot be opened or read.
-fn load(name: &[u8], text: &mut [u8]) -> usize
-    ensures { IsPrefixLen result text.new }
+// The file's bytes, as many as the room holds; none where it cannot be opened or read. A name that is no UTF-8 opens no file.
+fn load<R: Files>(rt: &R, name: &[u8], text: &mut [u8]) -> usize
+    ensures { result ≤ length text.new }
 {
-    let fd = os::open_read(name);
-    if fd < 0 {
+    let Ok(path) = std::str::from_utf8(name) else {
         return 0;
+    };
+    let Ok(mut file) = File::open(rt, path) else {
+        return 0;
+    };
+    let mut done = 0;
+    while done < text.len() {
+        match file.read(&mut text[done..]) {
+            Ok(0) => break,
+            Ok(n) => done += n,
+            Err(_) => break,
+        }
     }
-    let count = io::read_full(fd, text);
-    libc::close(fd);
-    count
+    done
 }
 
 // What the program prints for two files, in the first bytes of `out`, and its length.
-pub fn answer(on_name: &[u8], off_name: &[u8], out: &mut [u8]) -> usize
+pub fn answer<R: Files>(rt: &R, on_name: &[u8], off_name: &[u8], out: &mut [u8]) -> usize
     ensures { Answered result out.new out.old }
 {
     let mut on = [0; ROOM];
-    let ons = load(on_name, &mut on);
+    let ons = load(rt, on_name, &mut on);
     let mut off = [0; ROOM];
-    let offs = load(off_name, &mut off);
+    let offs = load(rt, off_name, &mut off);
     printing::print(&on[..ons], &off[..offs], out)
 }
 
-// Prints the list of the two sheets, or the refusal. Answers how many bytes it printed.
-pub fn run(on_name: &[u8], off_name: &[u8]) -> usize
-    ensures { Ran result }
+// Prints the list of the two sheets, or the refusal. Answers how many bytes it printed, or why it could not print them.
+pub fn run<R: Files + Print>(rt: &R, on_name: &[u8], off_name: &[u8]) -> io::Result<usize>
+    ensures { IfOk result (λ size. Ran size) }
 {
     let mut out = [0; printing::MAX_PRINTED];
-    let size = answer(on_name, off_name, &mut out);
-    io::write_all(1, &out[..size]);
-    size
+    let size = answer(rt, on_name, off_name, &mut out);
+    rt.write_all(&out[..size])?;
+    Ok(size)
 }

@@ -28,18 +28,23 @@ fn write(path: &Path, file: &File) -> Vec<u8> {
 
 /// What the test program begins with.
 const CASE: &str = "// Every case folder: its name, and what is printed for its two sheets. Written by tests/cases.
+#![tactic(auto)]
+
 mod path;
 
 use path::joined;
+use std::io;
+use std::rt::Files;
 
-fn case(folder: &[u8]) {
-    io::write_all(1, folder);
-    io::write_all(1, b\"\\n\");
+fn case<R: Files + Print>(rt: &R, folder: &[u8]) -> io::Result<()> {
+    rt.write_all(folder)?;
+    rt.write_all(b\"\\n\")?;
     let mut on = [0; 64];
     let ons = joined(folder, b\"/on.cnf\", &mut on);
     let mut off = [0; 64];
     let offs = joined(folder, b\"/off.cnf\", &mut off);
-    running::run(&on[..ons], &off[..offs]);
+    running::run(rt, &on[..ons], &off[..offs])?;
+    Ok(())
 }
 ";
 
@@ -50,12 +55,12 @@ fn program(groups: &[Group]) -> String {
     for group in groups {
         for (k, cases) in group.cases.chunks(6).enumerate() {
             let function = format!("{}_{}", group.name, k + 1);
-            calls += &format!("    {function}();\n");
-            let body: String = cases.iter().map(|case| format!("    case(b\"{}\");\n", case.name)).collect();
-            text += &format!("\nfn {function}() {{\n{body}}}\n");
+            calls += &format!("    {function}(&rt)?;\n");
+            let body: String = cases.iter().map(|case| format!("    case(rt, b\"{}\")?;\n", case.name)).collect();
+            text += &format!("\nfn {function}<R: Files + Print>(rt: &R) -> io::Result<()> {{\n{body}    Ok(())\n}}\n");
         }
     }
-    text + &format!("\nfn main() {{\n{calls}}}\n")
+    text + &format!("\nfn main(rt: HostRuntime) -> io::Result<()> {{\n{calls}    Ok(())\n}}\n")
 }
 
 fn main() {

@@ -1,4 +1,7 @@
 use mathlib.Core.Path.{sym, ◌∙◌}
+use Prim.Native.Nat.{◌<◌}
+use native.Mathlib.Omega.{arith}
+use Rattle.rules.specs.Method.{max_rows}
 use Rattle.lists.proofs.Forms.{partial-refused, partial-asked}
 use Rattle.lists.proofs.Parts.{refused-reply, refused-run}
 use Rattle.lists.proofs.partial.partial_list.Goals as goal
@@ -13,7 +16,8 @@ returns-in-Refused c =
 
 pub returns-then-k-gt-MAX_ROWS : goal.returns-then-k-gt-MAX_ROWS
 returns-then-k-gt-MAX_ROWS c =
-    let e = partial-asked _ _ _ _ _ _ (sym c.form_of-form.ensures ∙ c.in_default.is) c.if-k-gt-MAX_ROWS.true in record {
+    let above : max_rows < c.args.k = omega arith in
+    let e = partial-asked _ _ _ _ _ _ (sym c.form_of-form.ensures ∙ c.in_default.is) above in record {
       result_value = refused-reply _ _ e _;
       care_after = refused-run _ _ e _ _;
       value_after = refused-run _ _ e _ _;

@@ -15,7 +15,7 @@ unfolding words_of
 prune-requires c =
     record {
       asked = rw (zero-add c.args.count) c.requires.asked;
-      count_in_bounds = rw (zero-add c.args.count) c.requires.count_in_bounds;
+      count_in_bounds = rw (zero-add c.args.count) c.requires.rows_in_bounds;
     }
 
 pub returns : goal.returns

@@ -25,26 +25,26 @@ counts n count cs vs h =
 
 pub lay-requires : goal.lay-requires
 lay-requires c =
-    let w = counts c.args.n c.args.count c.args.care.now c.args.value.now c.requires.value_value in record {
-      count_in_bounds = w.0;
-      count_in_bounds_2 = w.1.0;
-      count_in_bounds_3 = omega arith;
+    let w = counts c.args.n c.args.count c.args.care.now c.args.value.now c.requires.form in record {
+      care_in_bounds = w.0;
+      value_in_bounds = w.1.0;
+      rows_in_bounds = omega arith;
     }
 
 pub prune_all-stay-requires : goal.prune_all-stay-requires
 prune_all-stay-requires c =
     let rows = rows_in c.args.care.now c.args.value.now in
-    let w = counts c.args.n c.args.count c.args.care.now c.args.value.now c.requires.value_value in
+    let w = counts c.args.n c.args.count c.args.care.now c.args.value.now c.requires.form in
     let order = ap (take c.args.n) c.natural_order.ensures ∙ order-first _ c.args.n in record {
-      asked = laid-asked c.args.n c.args.count rows c.requires.value_value _ _ _ order c.lay.ensures c.requires.n_le_max_inputs;
-      count_in_bounds = omega (arith, c.lay.auto.rows);
+      asked = laid-asked c.args.n c.args.count rows c.requires.form _ _ _ order c.lay.ensures c.requires.few_inputs;
+      rows_in_bounds = omega (arith, c.lay.auto.rows);
     }
 
 pub mark-requires : goal.mark-requires
 mark-requires c =
-    let w = counts c.args.n c.args.count c.args.care.now c.args.value.now c.requires.value_value in record {
-      count_in_bounds = omega (arith, c.prune_all-stay.auto.rows, c.lay.auto.rows);
-      count_in_bounds_2 = omega (arith, c.requires.care_in_bounds);
+    let w = counts c.args.n c.args.count c.args.care.now c.args.value.now c.requires.form in record {
+      rows_in_bounds = omega (arith, c.prune_all-stay.auto.rows, c.lay.auto.rows);
+      dropped_in_bounds = omega (arith, c.requires.dropped_in_bounds);
     }
 
 pub returns : goal.returns
@@ -52,6 +52,6 @@ returns c =
     let rows = rows_in c.args.care.now c.args.value.now in
     let order = ap (take c.args.n) c.natural_order.ensures ∙ order-first _ c.args.n in
     let laid = c.lay.ensures in record {
-      value = c.prune_all-stay.ensures.value ∙ ap kept (laid-stay c.args.n c.args.count rows c.requires.value_value _ _ _ order laid);
-      dropped_after = c.mark.ensures ∙ ap (λ (x : List ℕ). over x c.args.dropped.now) (left-marks c.args.n c.args.count rows c.requires.value_value _ _ _ order laid _ c.prune_all-stay.ensures.rows_after);
+      value = c.prune_all-stay.ensures.value ∙ ap kept (laid-stay c.args.n c.args.count rows c.requires.form _ _ _ order laid);
+      dropped_after = c.mark.ensures ∙ ap (λ (x : List ℕ). over x c.args.dropped.now) (left-marks c.args.n c.args.count rows c.requires.form _ _ _ order laid _ c.prune_all-stay.ensures.rows_after);
     }

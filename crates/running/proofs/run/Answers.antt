@@ -1,0 +1,20 @@
+-- What is printed lies within the run that it is printed to.
+use mathlib.Core.Path.{refl, sym}
+use Rattle.std.proofs.Common.{◌≤◌, length}
+use lib.Seq.{length-take-le}
+use Rattle.printing.proofs.Outputs.{printed-within}
+use Rattle.running.proofs.Rooms.{printed-all}
+use Rattle.running.proofs.run.Goals as goal
+
+pub slice_bounds-out-end : goal.slice_bounds-out-end
+slice_bounds-out-end g c = printed-within _ _ c.answer-size.ensures.counted c.answer-size.ensures.left
+
+pub slice_bounds-write_all-end : goal.slice_bounds-write_all-end
+slice_bounds-write_all-end g c =
+    let h : c.answer-size.result ≤ length c.answer-size.new.out = printed-within _ _ c.answer-size.ensures.counted c.answer-size.ensures.left in
+    sym (length-take-le _ _ h)
+
+pub returns : goal.returns
+returns g c =
+    let a = c.answer-size.ensures in
+    record { on_text = a.on_text; off_text = a.off_text; all = printed-all _ a.counted refl }

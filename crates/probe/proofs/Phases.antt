@@ -1,6 +1,6 @@
 -- Where every setting is off no literal goes, so generation keeps each setting that it finds as the row of all its literals.
 use mathlib.Core.Path.{◌≡◌, refl, sym, ap, ◌∙◌, subst}
-use mathlib.Core.Bool.{Bool, true, false, cond, and-true}
+use mathlib.Core.Bool.{Bool, true, cond, and-true}
 use mathlib.Core.List.{List, [], ◌∷◌, ◌++◌}
 use mathlib.Core.Option.{Option, none, some}
 use Prim.Native.Nat.{ℕ, ◌+◌, ◌-◌, ◌*◌, ◌/◌, ◌≤◌}
@@ -30,7 +30,6 @@ use Rattle.search.specs.Question.{good, cares_within, Asked}
 use Rattle.search.proofs.Queries.{few-inputs, few-clauses, few-barred}
 use Rattle.search.proofs.Queries as queries
 use Rattle.method.specs.Lent.{asks, first_rows}
-use Rattle.method.proofs.Generates.{Generating}
 use Rattle.method.proofs.Kept.{first_rows_lem}
 use Rattle.lists.proofs.InForm.{barred-asks}
 use Rattle.probe.specs.Phase.{settings, rows_form, bytes_form, phase, phase_words}
@@ -58,17 +57,6 @@ pub none-widens : (order : List ℕ) (s : ℕ) (r : Row) → r ≡ full (length 
 unfolding widen
 none-widens order s r e = e ∙ sym (none-goes order order (full (length order) s))
 
--- After k rows.
-pub all-kept : (order : List ℕ) (sheet : List ℤ) (ons k : ℕ) (old : List ℕ) (count last : ℕ) (kept : List ℕ)
-    → Generating order sheet all ons k old count last kept → k ≤ count
-    → (kept ≡ over (pairs_of (first_rows ons old ++ generated order (good sheet [] (first_rows ons old)) all k)) old)
-    × (count ≡ length (generated order (good sheet [] (first_rows ons old)) all k))
-all-kept order sheet ons k old count last kept g l =
-    let e : count ≡ k = omega (arith, g.within) in (
-      g.stands ∙ ap (λ (m : ℕ). over (pairs_of (first_rows ons old ++ generated order (good sheet [] (first_rows ons old)) all m)) old) e,
-      sym g.whole ∙ ap (λ (m : ℕ). length (generated order (good sheet [] (first_rows ons old)) all m)) e,
-    )
-
 -- What is written over a run and over what it was written to is the same.
 over-again : (a b old : List ℕ) → over (a ++ b) (over a old) ≡ over (a ++ b) old
 over-again a b old =
@@ -85,11 +73,6 @@ rows-again xs ys old =
     ap (λ (ws : List ℕ). over ws (over (pairs_of xs) old)) (pairs-append xs ys)
     ∙ over-again (pairs_of xs) (pairs_of ys) old
     ∙ ap (λ (ws : List ℕ). over ws old) (sym (pairs-append xs ys))
-
--- Without form nothing is found, and the run stays.
-pub unformed : (is_formed : Bool) (first : List Row) (order : List ℕ) (sheet : List ℤ) (old : List ℕ) → is_formed ≡ false
-    → (0 ≡ length (phase is_formed first order sheet old)) × (old ≡ phase_words is_formed first order sheet old)
-unformed is_formed first order sheet old e = (rw e, rw e)
 
 -- The clauses as barred rows, of an input in form.
 module _ (n : ℕ) (order : List ℕ) (sheet : List ℤ) (old : List ℕ) (is_formed : rows_form n order sheet (length old) ≡ true) where

@@ -39,9 +39,6 @@ module _ (word : Cube → ℕ) (ys : List Cube) (many : length ys ≡ 256) (i : 
       let put = put-more (map word ys) i cells w (word no_cube) so.0 (omega (arith, so.1)) (omega (arith, length-map ys word)) (e ∙ sym (get_or-map word ys i no_cube)) in
       (rw (add-one i) put, length-set cells i w ∙ so.1)
 
-  pub word-all : 256 ≤ i → cells ≡ map word ys
-  word-all l = put_all (map word ys) i cells so.0 (omega (arith, so.1)) (omega (arith, length-map ys word))
-
 pub cubes-length : (cs vs ms : List ℕ) → length cs ≤ length vs → length cs ≤ length ms → length (cubes_in cs vs ms) ≡ length cs
 unfolding cubes_in
 cubes-length [] vs ms a b = refl

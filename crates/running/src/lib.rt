@@ -1,7 +1,8 @@
 // The program around what is printed: two files in, one text out.
 #![tactic(auto)]
 
-ghost use Rattle.std.specs.Prelude.{◌≤◌, length, IfOk};
+ghost use Rattle.std.specs.Prelude.{◌≤◌, length, take, IfOk};
+ghost use Rattle.std.specs.Io.KnownBytes.{Consumes};
 ghost use Rattle.running.specs.Answered.{Answered, Ran};
 
 use rules::Text;
@@ -13,6 +14,22 @@ use std::rt::Files;
 // One byte more than a text may have: a longer file is refused, not cut.
 const ROOM: usize = Text::MAX_BYTES + 1;
 
+// Reads until the run is full, or a read gives nothing or fails. Answers how many bytes it read, into the first of the run.
+fn fill<R: Read>(from: &mut R, text: &mut [u8]) -> usize
+    ensures within { result ≤ length text.new }
+    ensures bytes { Consumes (R.remaining from.old) (R.remaining from.new) (take result text.new) }
+{
+    let mut done = 0;
+    while done < text.len() {
+        match from.read(&mut text[done..]) {
+            Ok(0) => break,
+            Ok(n) => done += n,
+            Err(_) => break,
+        }
+    }
+    done
+}
+
 // The file's bytes, as many as the room holds; none where it cannot be opened or read. A name that is no UTF-8 opens no file.
 fn load<R: Files>(rt: &R, name: &[u8], text: &mut [u8]) -> usize
     ensures { result ≤ length text.new }
@@ -20,18 +37,10 @@ fn load<R: Files>(rt: &R, name: &[u8], text: &mut [u8]) -> usize
     let Ok(path) = std::str::from_utf8(name) else {
         return 0;
     };
-    let Ok(mut file) = File::open(rt, path) else {
-        return 0;
-    };
-    let mut done = 0;
-    while done < text.len() {
-        match file.read(&mut text[done..]) {
-            Ok(0) => break,
-            Ok(n) => done += n,
-            Err(_) => break,
-        }
+    match File::open(rt, path) {
+        Ok(mut file) => fill(&mut file, text),
+        Err(_) => 0,
     }
-    done
 }
 
 // What the program prints for two files, in the first bytes of `out`, and its length.

@@ -3,12 +3,12 @@
 
 ghost use Rattle.std.specs.Prelude.{◌≤◌, length, take, IfOk};
 ghost use Rattle.std.specs.Io.KnownBytes.{Consumes};
-ghost use Rattle.running.specs.Answered.{Answered, Ran};
+ghost use Rattle.running.specs.Answered.{Answered, Ran, Wrote};
 
 use rules::Text;
 use std::fs::File;
 use std::io;
-use std::io::Read;
+use std::io::{Read, Write};
 use std::rt::Files;
 
 // One byte more than a text may have: a longer file is refused, not cut.
@@ -54,12 +54,24 @@ pub fn answer<R: Files>(rt: &R, on_name: &[u8], off_name: &[u8], out: &mut [u8])
     printing::print(&on[..ons], &off[..offs], out)
 }
 
+// Writes what the program prints for two files, and answers how many bytes it wrote.
+fn print_to<R: Files, W: Write>(
+    rt: &R,
+    on_name: &[u8],
+    off_name: &[u8],
+    to: &mut W,
+) -> io::Result<usize>
+    ensures { IfOk result (λ size. Wrote size (W.contents to.old) (W.contents to.new)) }
+{
+    let mut out = [0; printing::MAX_PRINTED];
+    let size = answer(rt, on_name, off_name, &mut out);
+    to.write_all(&out[..size])?;
+    Ok(size)
+}
+
 // Prints the list of the two sheets, or the refusal. Answers how many bytes it printed, or why it could not print them.
 pub fn run<R: Files + Print>(rt: &R, on_name: &[u8], off_name: &[u8]) -> io::Result<usize>
     ensures { IfOk result (λ size. Ran size) }
 {
-    let mut out = [0; printing::MAX_PRINTED];
-    let size = answer(rt, on_name, off_name, &mut out);
-    rt.write_all(&out[..size])?;
-    Ok(size)
+    print_to(rt, on_name, off_name, &mut io::writer(rt))
 }

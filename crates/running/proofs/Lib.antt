@@ -1,2 +1,3 @@
 -- Laws about what is loaded and printed.
+pub mod Filled
 pub mod Rooms

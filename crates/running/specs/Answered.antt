@@ -3,6 +3,8 @@ use Rattle.std.specs.Prelude.{◌≡◌, List, ℕ, ◌+◌, ◌≤◌, length}
 use Rattle.rules.specs.Dimacs.{max_bytes}
 use Rattle.rules.specs.Program.{output}
 use Rattle.printing.specs.Printed.{printed, printed_size}
+use Rattle.std.specs.Io.KnownBytes.{Appends}
+use Rattle.std.specs.declared.option.Option.{Option}
 
 -- The bytes in the lent run afterwards, and their count.
 pub record Answered (size : ℕ) (new old : List ℕ) : Type 0 where
@@ -18,3 +20,8 @@ pub record Ran (size : ℕ) : Type 0 where
   pub on_text : List ℕ
   pub off_text : List ℕ
   pub all : size ≡ length (output on_text off_text)
+
+-- The bytes that a writer holds have grown by what is printed for the two texts, where it says what it holds.
+pub record Wrote (size : ℕ) (old new : Option (List ℕ)) : Type 0 where
+  pub ran : Ran size
+  pub grown : Appends old new (output ran.on_text ran.off_text)

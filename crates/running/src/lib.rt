@@ -1,17 +1,34 @@
 // The program around what is printed: two files in, one text out.
 #![tactic(auto)]
 
-ghost use Rattle.std.specs.Prelude.{◌≤◌, length, IfOk};
-ghost use Rattle.running.specs.Answered.{Answered, Ran};
+ghost use Rattle.std.specs.Prelude.{◌≤◌, length, take, IfOk};
+ghost use Rattle.std.specs.Io.KnownBytes.{Consumes};
+ghost use Rattle.running.specs.Answered.{Answered, Ran, Wrote};
 
 use rules::Text;
 use std::fs::File;
 use std::io;
-use std::io::Read;
+use std::io::{Read, Write};
 use std::rt::Files;
 
 // One byte more than a text may have: a longer file is refused, not cut.
 const ROOM: usize = Text::MAX_BYTES + 1;
+
+// Reads until the run is full, or a read gives nothing or fails. Answers how many bytes it read, into the first of the run.
+fn fill<R: Read>(from: &mut R, text: &mut [u8]) -> usize
+    ensures within { result ≤ length text.new }
+    ensures bytes { Consumes (R.remaining from.old) (R.remaining from.new) (take result text.new) }
+{
+    let mut done = 0;
+    while done < text.len() {
+        match from.read(&mut text[done..]) {
+            Ok(0) => break,
+            Ok(n) => done += n,
+            Err(_) => break,
+        }
+    }
+    done
+}
 
 // The file's bytes, as many as the room holds; none where it cannot be opened or read. A name that is no UTF-8 opens no file.
 fn load<R: Files>(rt: &R, name: &[u8], text: &mut [u8]) -> usize
@@ -20,18 +37,10 @@ fn load<R: Files>(rt: &R, name: &[u8], text: &mut [u8]) -> usize
     let Ok(path) = std::str::from_utf8(name) else {
         return 0;
     };
-    let Ok(mut file) = File::open(rt, path) else {
-        return 0;
-    };
-    let mut done = 0;
-    while done < text.len() {
-        match file.read(&mut text[done..]) {
-            Ok(0) => break,
-            Ok(n) => done += n,
-            Err(_) => break,
-        }
+    match File::open(rt, path) {
+        Ok(mut file) => fill(&mut file, text),
+        Err(_) => 0,
     }
-    done
 }
 
 // What the program prints for two files, in the first bytes of `out`, and its length.
@@ -45,12 +54,24 @@ pub fn answer<R: Files>(rt: &R, on_name: &[u8], off_name: &[u8], out: &mut [u8])
     printing::print(&on[..ons], &off[..offs], out)
 }
 
+// Writes what the program prints for two files, and answers how many bytes it wrote.
+fn print_to<R: Files, W: Write>(
+    rt: &R,
+    on_name: &[u8],
+    off_name: &[u8],
+    to: &mut W,
+) -> io::Result<usize>
+    ensures { IfOk result (λ size. Wrote size (W.contents to.old) (W.contents to.new)) }
+{
+    let mut out = [0; printing::MAX_PRINTED];
+    let size = answer(rt, on_name, off_name, &mut out);
+    to.write_all(&out[..size])?;
+    Ok(size)
+}
+
 // Prints the list of the two sheets, or the refusal. Answers how many bytes it printed, or why it could not print them.
 pub fn run<R: Files + Print>(rt: &R, on_name: &[u8], off_name: &[u8]) -> io::Result<usize>
     ensures { IfOk result (λ size. Ran size) }
 {
-    let mut out = [0; printing::MAX_PRINTED];
-    let size = answer(rt, on_name, off_name, &mut out);
-    rt.write_all(&out[..size])?;
-    Ok(size)
+    print_to(rt, on_name, off_name, &mut io::writer(rt))
 }

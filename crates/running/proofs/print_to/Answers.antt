@@ -1,10 +1,11 @@
--- What is printed lies within the run that it is printed to.
+-- What is printed lies within the run that it is printed to, and is what the writer takes.
 use mathlib.Core.Path.{refl, sym}
-use Rattle.std.proofs.Common.{◌≤◌, length}
+use Rattle.std.proofs.Common.{◌≤◌, length, subst}
 use lib.Seq.{length-take-le}
+use Rattle.std.specs.Io.KnownBytes.{Appends}
 use Rattle.printing.proofs.Outputs.{printed-within}
-use Rattle.running.proofs.Rooms.{printed-all}
-use Rattle.running.proofs.run.Goals as goal
+use Rattle.running.proofs.Rooms.{printed-all, printed-first}
+use Rattle.running.proofs.print_to.Goals as goal
 
 pub slice_bounds-out-end : goal.slice_bounds-out-end
 slice_bounds-out-end g c = printed-within _ _ c.answer-size.ensures.counted c.answer-size.ensures.left
@@ -17,4 +18,7 @@ slice_bounds-write_all-end g c =
 pub returns : goal.returns
 returns g c =
     let a = c.answer-size.ensures in
-    record { on_text = a.on_text; off_text = a.off_text; all = printed-all _ a.counted refl }
+    record {
+      ran = record { on_text = a.on_text; off_text = a.off_text; all = printed-all _ a.counted refl };
+      grown = subst (Appends _ _) (printed-first _ _ a.counted a.left refl) c.in_ok-write_all.ensures.bytes;
+    }

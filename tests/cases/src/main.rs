@@ -1,5 +1,5 @@
 //! Writes the data folders, the expected output and the list of cases of the programs under crates/, from the project's root:
-//! `cargo run --manifest-path tests/cases/Cargo.toml && rt fmt`. What is expected comes from the second program alone.
+//! `cargo run --manifest-path tests/cases/Cargo.toml`. What is expected comes from the second program alone.
 
 mod table;
 mod texts;

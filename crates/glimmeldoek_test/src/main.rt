@@ -14,7 +14,7 @@ fn case<R: Files + Print>(rt: &R, folder: &[u8]) -> io::Result<()> {
     let ons = joined(folder, b"/on.cnf", &mut on);
     let mut off = [0; 64];
     let offs = joined(folder, b"/off.cnf", &mut off);
-    running::run(rt, &on[..ons], &off[..offs])?;
+    running::run(rt, &on[..ons], &off[..offs]);
     Ok(())
 }
 

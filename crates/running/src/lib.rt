@@ -1,7 +1,7 @@
 // The program around what is printed: two files in, one text out.
 #![tactic(auto)]
 
-ghost use Rattle.std.specs.Prelude.{◌≤◌, length, take, IfOk};
+ghost use Rattle.std.specs.Prelude.{◌≤◌, length, take, OnOk};
 ghost use Rattle.std.specs.Io.KnownBytes.{Consumes};
 ghost use Rattle.running.specs.Answered.{Answered, Ran, Wrote};
 
@@ -54,24 +54,26 @@ pub fn answer<R: Files>(rt: &R, on_name: &[u8], off_name: &[u8], out: &mut [u8])
     printing::print(&on[..ons], &off[..offs], out)
 }
 
-// Writes what the program prints for two files, and answers how many bytes it wrote.
+// Writes what the program prints for two files, and answers how many bytes that is, and whether they could be written.
 fn print_to<R: Files, W: Write>(
     rt: &R,
     on_name: &[u8],
     off_name: &[u8],
     to: &mut W,
-) -> io::Result<usize>
-    ensures { IfOk result (λ size. Wrote size (W.contents to.old) (W.contents to.new)) }
+) -> (usize, io::Result<()>)
+    ensures ran { Ran result.0 }
+    ensures wrote { OnOk result.1 (Wrote result.0 (W.contents to.old) (W.contents to.new)) }
 {
     let mut out = [0; printing::MAX_PRINTED];
     let size = answer(rt, on_name, off_name, &mut out);
-    to.write_all(&out[..size])?;
-    Ok(size)
+    let written = to.write_all(&out[..size]);
+    (size, written)
 }
 
-// Prints the list of the two sheets, or the refusal. Answers how many bytes it printed, or why it could not print them.
-pub fn run<R: Files + Print>(rt: &R, on_name: &[u8], off_name: &[u8]) -> io::Result<usize>
-    ensures { IfOk result (λ size. Ran size) }
+// Prints the list of the two sheets, or the refusal. Answers how many bytes that is. Where they cannot be written, nothing tells.
+pub fn run<R: Files + Print>(rt: &R, on_name: &[u8], off_name: &[u8]) -> usize
+    ensures { Ran result }
 {
-    print_to(rt, on_name, off_name, &mut io::writer(rt))
+    let (size, _written) = print_to(rt, on_name, off_name, &mut io::writer(rt));
+    size
 }

@@ -5,6 +5,8 @@ use lib.Seq.{length-take-le}
 use Rattle.std.specs.Io.KnownBytes.{Appends}
 use Rattle.printing.proofs.Outputs.{printed-within}
 use Rattle.running.proofs.Rooms.{printed-all, printed-first}
+use Rattle.std.proofs.lemmas.Result.{on_ok_weaker}
+use Rattle.running.specs.Answered.{Ran}
 use Rattle.running.proofs.print_to.Goals as goal
 
 pub slice_bounds-out-end : goal.slice_bounds-out-end
@@ -18,7 +20,10 @@ slice_bounds-write_all-end g c =
 pub returns : goal.returns
 returns g c =
     let a = c.answer-size.ensures in
+    let ran : Ran c.answer-size.result = record { on_text = a.on_text; off_text = a.off_text; all = printed-all _ a.counted refl } in
     record {
-      ran = record { on_text = a.on_text; off_text = a.off_text; all = printed-all _ a.counted refl };
-      grown = subst (Appends _ _) (printed-first _ _ a.counted a.left refl) c.in_ok-write_all.ensures.bytes;
+      ran = ran;
+      wrote = on_ok_weaker c.write_all-written.result
+          (λ h. record { ran = ran; grown = subst (Appends _ _) (printed-first _ _ a.counted a.left refl) h })
+          c.write_all-written.ensures.bytes;
     }

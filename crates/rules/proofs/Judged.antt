@@ -1,6 +1,6 @@
 -- Within one call the lowest number that applies is given, and the result only if none applies.
 use mathlib.Core.Path.{◌≡◌, refl, sym, ◌∙◌, ap, subst}
-use mathlib.Core.Bool.{Bool, true, false, ◌&&◌}
+use mathlib.Core.Bool.{Bool, true, false, cond, ◌&&◌}
 use mathlib.Core.List.{List, [], ◌∷◌, ◌++◌}
 use mathlib.Core.Logic.{◌⊎◌, inl, inr, ◌↔◌}
 use Prim.Native.Nat.{ℕ, ◌<◌}
@@ -126,14 +126,14 @@ if_given (given a) later = later
 if_given (refused r) later = refused r
 
 module _ {A : Type 0} (a : A) where
-  -- One check: it applies and its reply is given, or it is passed.
-  pub judge-applies : (c : Check) (cs : List Check) → c.applies ≡ true → judge (c ∷ cs) a ≡ refused c.reply
-  unfolding judge
-  judge-applies c cs h = rw h
-
+  -- One check: it is passed, or it applies and its reply is given.
   pub judge-passes : (c : Check) (cs : List Check) → c.applies ≡ false → judge (c ∷ cs) a ≡ judge cs a
   unfolding judge
-  judge-passes c cs h = rw h
+  judge-passes c cs h = ap (λ (b : Bool). cond b (refused c.reply) (judge cs a)) h
+
+  pub judge-applies : (c : Check) (cs : List Check) → c.applies ≡ true → judge (c ∷ cs) a ≡ refused c.reply
+  unfolding judge
+  judge-applies c cs h = ap (λ (b : Bool). cond b (refused c.reply) (judge cs a)) h
 
   -- The result is given exactly if no check applies.
   pub judge-none : (cs : List Check) → NoneApply cs → judge cs a ≡ given a

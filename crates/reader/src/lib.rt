@@ -9,7 +9,7 @@ ghost use Rattle.reader.specs.Moves.{moved_by, moved, moved_on};
 use dimacs::{Step, next_token};
 
 // The position is the number of bytes passed.
-#[derive(Drop)]
+#[derive(Clone, Copy)]
 pub struct Reader<'a> {
     pub text: &'a [u8],
     pub position: usize,

@@ -6,3 +6,4 @@ pub mod Copied
 pub mod Written
 pub mod Planned
 pub mod Whole
+pub mod Told

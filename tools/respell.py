@@ -30,6 +30,9 @@ def files():
 
 def main():
     dry = "--dry" in sys.argv
+    if not any(WORD.search(path.read_text(encoding="utf-8")) for path in files() if path.suffix == ".antt"):
+        print("spelled already")
+        return
     for path in files():
         text = path.read_text(encoding="utf-8")
         words = set(WORD.findall(text))

@@ -47,6 +47,8 @@ pub struct Worked<C> {
 pub struct Call<C: Case> {
     pub name: &'static str,
     pub second: C::Calls,
+    /// What the other program is called where it differs.
+    pub whose: &'static str,
     pub worked: fn(&mut Random) -> Vec<Worked<C>>,
     pub draw: fn(&mut Random) -> C,
     pub results: &'static [&'static str],
@@ -66,7 +68,7 @@ impl<C: Case> Call<C> {
         results: &'static [&'static str],
         refusals: &'static [u32],
     ) -> Call<C> {
-        Call { name, second, worked, draw, results, refusals }
+        Call { name, second, whose: "the second program", worked, draw, results, refusals }
     }
 
     /// Compares this many random cases after the worked ones; what was met, or in words what is wrong.
@@ -124,9 +126,9 @@ impl<C: Case> Call<C> {
     fn differs(&self, case: &C, library: &Outcome, second: &Outcome) -> Option<String> {
         let answer = |outcome: &Outcome| format!("{} ({:#018x})", case.kind(outcome), outcome.answer);
         if library.answer != second.answer {
-            return Some(format!("answers {}, the second program {}", answer(library), answer(second)));
+            return Some(format!("answers {}, {} {}", answer(library), self.whose, answer(second)));
         }
-        library.cell_that_differs(second)
+        library.cell_that_differs(second, self.whose)
     }
 
     /// The smallest differing case found from this differing one, shown with what differs.

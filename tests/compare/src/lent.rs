@@ -109,11 +109,11 @@ impl Outcome {
     }
 
     /// The first lent cell that differs, in words: cells before 0 and from the run's length on are guards.
-    pub fn cell_that_differs(&self, other: &Outcome) -> Option<String> {
+    pub fn cell_that_differs(&self, other: &Outcome, whose: &str) -> Option<String> {
         for ((name, ours), (_, theirs)) in self.runs.iter().zip(&other.runs) {
             if let Some(i) = (0..ours.len()).find(|&i| ours[i] != theirs[i]) {
                 let (place, room) = (i as i64 - GUARD as i64, ours.len() - 2 * GUARD);
-                return Some(format!("{name}[{place}] of {room} is {}, the second program leaves {}", ours[i], theirs[i]));
+                return Some(format!("{name}[{place}] of {room} is {}, {whose} leaves {}", ours[i], theirs[i]));
             }
         }
         None

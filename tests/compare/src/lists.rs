@@ -140,9 +140,21 @@ pub const WHOLE_TO_16: Call<ListCase> = Call {
 pub const PARTIAL_TO_16: Call<ListCase> =
     Call { name: "partial-11-to-16", draw: |random| draw(random, &itself::LISTS, pair_to_16, true), refusals: &[6, 15], ..PARTIAL };
 
-/// 17 to 24 inputs, of which the second program would go through too many settings: the plain C program answers in its place.
-pub const WHOLE_TO_24: Call<ListCase> =
-    Call { name: "whole-17-to-24", second: plain::LISTS, draw: |random| draw(random, &plain::LISTS, pair_to_24, false), ..WHOLE_TO_16 };
+const PLAIN: &str = "the plain C program";
 
-pub const PARTIAL_TO_24: Call<ListCase> =
-    Call { name: "partial-17-to-24", second: plain::LISTS, draw: |random| draw(random, &plain::LISTS, pair_to_24, true), ..PARTIAL_TO_16 };
+/// 17 to 24 inputs, of which the second program would go through too many settings: the plain C program answers in its place.
+pub const WHOLE_TO_24: Call<ListCase> = Call {
+    name: "whole-17-to-24",
+    second: plain::LISTS,
+    whose: PLAIN,
+    draw: |random| draw(random, &plain::LISTS, pair_to_24, false),
+    ..WHOLE_TO_16
+};
+
+pub const PARTIAL_TO_24: Call<ListCase> = Call {
+    name: "partial-17-to-24",
+    second: plain::LISTS,
+    whose: PLAIN,
+    draw: |random| draw(random, &plain::LISTS, pair_to_24, true),
+    ..PARTIAL_TO_16
+};

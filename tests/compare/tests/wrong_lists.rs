@@ -183,7 +183,8 @@ fn lists_of_words_of_12_bits() {
 
 #[test]
 fn lists_of_words_of_16_bits() {
-    caught(WHOLE_TO_24, Lists { whole: whole_cut::<16>, ..PLAIN });
+    let words = caught(WHOLE_TO_24, Lists { whole: whole_cut::<16>, ..PLAIN });
+    assert!(words.contains("the plain C program leaves"));
     caught(PARTIAL_TO_24, Lists { partial: partial_cut::<16>, ..PLAIN });
 }
 

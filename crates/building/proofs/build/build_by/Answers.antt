@@ -37,14 +37,26 @@ prune_behind-count-requires c =
 
 pub returns-then-room-count : goal.returns-then-room-count
 returns-then-room-count c =
-    let none = met-is _ _ _ _ _ _ _ c.requires.lent _ c.find_first-met.ensures ∙ ap found_as c.in_default.is in let whole = sym c.generate-made.ensures.complete_value ∙ not-false _ c.if-not-made.false in let stay = stay-is _ _ _ _ _ _ _ c.requires.lent _ all-rows _ _ c.generate-made.ensures.kept_after c.generate-made.ensures.count_value _ _ c.prune_behind-count.ensures.value c.prune_behind-count.ensures.rows_after ∙ ap length (list-is _ _ _) in record {
+    let none = met-is _ _ _ _ _ _ _ c.requires.lent _ c.find_first-met.ensures ∙ ap found_as c.in_default.is in
+    let whole = sym c.generate-made.ensures.complete_value ∙ not-false _ c.if-not-made.false in
+    let stay =
+    stay-is _ _ _ _ _ _ _ c.requires.lent _ all-rows _ _ c.generate-made.ensures.kept_after c.generate-made.ensures.count_value _ _ c.prune_behind-count.ensures.value c.prune_behind-count.ensures.rows_after
+    ∙ ap length (list-is _ _ _) in
+    record {
       result_value = reply-no-room _ _ _ _ none whole _ stay c.if-room-count.true;
       stands = tt;
     }
 
 pub returns : goal.returns
 returns c =
-    let none = met-is _ _ _ _ _ _ _ c.requires.lent _ c.find_first-met.ensures ∙ ap found_as c.in_default.is in let whole = sym c.generate-made.ensures.complete_value ∙ not-false _ c.if-not-made.false in let stay = stay-is _ _ _ _ _ _ _ c.requires.lent _ all-rows _ _ c.generate-made.ensures.kept_after c.generate-made.ensures.count_value _ _ c.prune_behind-count.ensures.value c.prune_behind-count.ensures.rows_after ∙ ap length (list-is _ _ _) in let left = left-stands _ _ _ _ _ _ _ c.requires.lent _ all-rows _ _ c.generate-made.ensures.kept_after c.generate-made.ensures.count_value _ _ c.prune_behind-count.ensures.value c.prune_behind-count.ensures.rows_after in record {
+    let none = met-is _ _ _ _ _ _ _ c.requires.lent _ c.find_first-met.ensures ∙ ap found_as c.in_default.is in
+    let whole = sym c.generate-made.ensures.complete_value ∙ not-false _ c.if-not-made.false in
+    let stay =
+    stay-is _ _ _ _ _ _ _ c.requires.lent _ all-rows _ _ c.generate-made.ensures.kept_after c.generate-made.ensures.count_value _ _ c.prune_behind-count.ensures.value c.prune_behind-count.ensures.rows_after
+    ∙ ap length (list-is _ _ _) in
+    let left =
+    left-stands _ _ _ _ _ _ _ c.requires.lent _ all-rows _ _ c.generate-made.ensures.kept_after c.generate-made.ensures.count_value _ _ c.prune_behind-count.ensures.value c.prune_behind-count.ensures.rows_after in
+    record {
       result_value = reply-gives _ _ _ _ none whole _ stay c.if-room-count.false;
       stands = (left.0, left.1 ∙ list-is _ _ _);
     }

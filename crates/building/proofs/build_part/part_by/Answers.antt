@@ -22,5 +22,8 @@ pub returns : goal.returns
 returns c =
     let none = met-is _ _ _ _ _ _ _ c.requires.lent _ c.find_first-met.ensures ∙ ap found_as c.in_default.is in record {
       result_value = reply-gives-part _ _ _ _ _ none _ c.generate-made.ensures.count_value c.if-room-count.false _ c.generate-made.ensures.complete_value;
-      part_stands = (made-room _ _ _ _ _ _ _ c.requires.lent _ c.requires.k_le_max_rows _ _ c.generate-made.ensures.kept_after c.generate-made.ensures.count_value, made-behind _ _ _ _ _ _ _ c.requires.lent _ c.requires.k_le_max_rows _ _ c.generate-made.ensures.kept_after c.generate-made.ensures.count_value);
+      part_stands = (
+        made-room _ _ _ _ _ _ _ c.requires.lent _ c.requires.k_le_max_rows _ _ c.generate-made.ensures.kept_after c.generate-made.ensures.count_value,
+        made-behind _ _ _ _ _ _ _ c.requires.lent _ c.requires.k_le_max_rows _ _ c.generate-made.ensures.kept_after c.generate-made.ensures.count_value,
+      );
     }

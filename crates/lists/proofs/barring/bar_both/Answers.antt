@@ -12,7 +12,6 @@ use Rattle.lists.proofs.Lending.{behind-room, both-laid, part_room}
 use Rattle.lists.proofs.barring.bar_both.Goals as goal
 
 -- a clause bars at most one row
-
 fits_both : (off on : List ℤ) (m size : ℕ) → m ≡ length (barred off) → 2 * (clauses off + clauses on) ≤ size → 2 * (m + length (barred on)) ≤ size
 fits_both off on m size e h = let a = barred-length off in let b = barred-length on in omega arith
 
@@ -40,7 +39,9 @@ bar-requires c =
     record {
       n_le_max_inputs = c.requires.n_le_max_inputs;
       sheet_value = c.requires.on_value;
-      sheet_in_bounds = part_room _ (barred c.args.on.now) _ c.bar-offs.ensures.value _ _ (fits_both _ _ _ _ c.bar-offs.ensures.value c.requires.on_in_bounds) c.bar-offs.ensures.rows_after _ (fits-clauses _ _ _ _ c.bar-offs.ensures.value c.requires.on_in_bounds);
+      sheet_in_bounds = part_room _ (barred c.args.on.now) _ c.bar-offs.ensures.value _ _
+          (fits_both _ _ _ _ c.bar-offs.ensures.value c.requires.on_in_bounds) c.bar-offs.ensures.rows_after _
+          (fits-clauses _ _ _ _ c.bar-offs.ensures.value c.requires.on_in_bounds);
     }
 
 pub returns : goal.returns

@@ -33,7 +33,16 @@ build-built-requires c =
 
 pub copy_behind-requires : goal.copy_behind-requires
 copy_behind-requires c =
-    let a = c.args in let same = asked-whole a.n a.order.now a.on.now a.off.now c.requires.off_value c.bar_sheets-bars.ensures _ c.requires.none_value _ ∙ ap (whole _ _ _ _) c.shorter-room.ensures in let e = c.in-Rows.is in let fits = whole-fits _ _ _ _ _ same c.build-built.result c.build-built.ensures.result_value _ _ e _ _ c.build-built.ensures.stands in let few = c.shorter-room.ensures in let l = min-le_left (length a.care.now) (length a.value.now) in let r = min-le_right (length a.care.now) (length a.value.now) in record {
+    let a = c.args in
+    let same =
+    asked-whole a.n a.order.now a.on.now a.off.now c.requires.off_value c.bar_sheets-bars.ensures _ c.requires.none_value _
+    ∙ ap (whole _ _ _ _) c.shorter-room.ensures in
+    let e = c.in-Rows.is in
+    let fits = whole-fits _ _ _ _ _ same c.build-built.result c.build-built.ensures.result_value _ _ e _ _ c.build-built.ensures.stands in
+    let few = c.shorter-room.ensures in
+    let l = min-le_left (length a.care.now) (length a.value.now) in
+    let r = min-le_right (length a.care.now) (length a.value.now) in
+    record {
       count_in_bounds = (whole-stands _ _ _ _ _ same c.build-built.result c.build-built.ensures.result_value _ _ e _ _ c.build-built.ensures.stands).0;
       kept_in_bounds = omega (arith, fits);
       kept_in_bounds_2 = omega (arith, fits);
@@ -41,7 +50,13 @@ copy_behind-requires c =
 
 pub returns-in-Rows : goal.returns-in-Rows
 returns-in-Rows c =
-    let a = c.args in let same = asked-whole a.n a.order.now a.on.now a.off.now c.requires.off_value c.bar_sheets-bars.ensures _ c.requires.none_value _ ∙ ap (whole _ _ _ _) c.shorter-room.ensures in let e = c.in-Rows.is in let left = whole-left _ _ _ _ _ same c.build-built.result c.build-built.ensures.result_value _ _ e _ _ c.build-built.ensures.stands in record {
+    let a = c.args in
+    let same =
+    asked-whole a.n a.order.now a.on.now a.off.now c.requires.off_value c.bar_sheets-bars.ensures _ c.requires.none_value _
+    ∙ ap (whole _ _ _ _) c.shorter-room.ensures in
+    let e = c.in-Rows.is in
+    let left = whole-left _ _ _ _ _ same c.build-built.result c.build-built.ensures.result_value _ _ e _ _ c.build-built.ensures.stands in
+    record {
       result_value = sym (ap built_reply e) ∙ whole-reply _ _ _ _ _ same c.build-built.result c.build-built.ensures.result_value;
       care_after = left cares _ _ c.copy_behind.ensures.care_after;
       value_after = left values _ _ c.copy_behind.ensures.value_after;
@@ -49,7 +64,13 @@ returns-in-Rows c =
 
 pub returns-in-Refused : goal.returns-in-Refused
 returns-in-Refused c =
-    let a = c.args in let same = asked-whole a.n a.order.now a.on.now a.off.now c.requires.off_value c.bar_sheets-bars.ensures _ c.requires.none_value _ ∙ ap (whole _ _ _ _) c.shorter-room.ensures in let e = c.in-Refused.is in let left = whole-leaves _ _ _ _ _ same c.build-built.result c.build-built.ensures.result_value _ e in record {
+    let a = c.args in
+    let same =
+    asked-whole a.n a.order.now a.on.now a.off.now c.requires.off_value c.bar_sheets-bars.ensures _ c.requires.none_value _
+    ∙ ap (whole _ _ _ _) c.shorter-room.ensures in
+    let e = c.in-Refused.is in
+    let left = whole-leaves _ _ _ _ _ same c.build-built.result c.build-built.ensures.result_value _ e in
+    record {
       result_value = sym (ap built_reply e) ∙ whole-reply _ _ _ _ _ same c.build-built.result c.build-built.ensures.result_value;
       care_after = left _ _;
       value_after = left _ _;

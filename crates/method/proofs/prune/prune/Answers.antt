@@ -22,7 +22,13 @@ overflow_add-stay c =
 
 pub loop-i-preserved : goal.loop-i-preserved
 loop-i-preserved c =
-    let j = c.judge.ensures {-?-} in elim c.if-judge.branch [ then-judge w ↦ turn _ _ _ _ _ c.requires.count_in_bounds _ _ _ c.loop-i.invariant c.loop-i-test.true _ j.value _ j.rows_after _ (w.stay-is ∙ one_more _ _ w.if-judge.true) | else-judge w ↦ turn _ _ _ _ _ c.requires.count_in_bounds _ _ _ c.loop-i.invariant c.loop-i-test.true _ j.value _ j.rows_after _ (w.stay-is ∙ no_more _ _ w.if-judge.false) ]
+    let j = c.judge.ensures {-?-} in
+    elim c.if-judge.branch [
+      | then-judge w ↦
+          turn _ _ _ _ _ c.requires.count_in_bounds _ _ _ c.loop-i.invariant c.loop-i-test.true _ j.value _ j.rows_after _ (w.stay-is ∙ one_more _ _ w.if-judge.true)
+      | else-judge w ↦
+          turn _ _ _ _ _ c.requires.count_in_bounds _ _ _ c.loop-i.invariant c.loop-i-test.true _ j.value _ j.rows_after _ (w.stay-is ∙ no_more _ _ w.if-judge.false)
+    ]
 
 pub returns : goal.returns
 returns c =

@@ -1,3 +1,4 @@
+-- A list in form is written, since there is room for the longest text.
 use mathlib.Core.Path.{◌≡◌}
 use mathlib.Core.List.{List}
 use Prim.Native.Nat.{ℕ}
@@ -18,27 +19,25 @@ use Rattle.pla.proofs.Verdict.{written}
 use Rattle.printing.proofs.Replies.{written-size, never-refused}
 use Rattle.printing.proofs.answer.put_list.Goals as goal
 
--- A list in form is written, since there is room for the longest text.
-
--- the given rows, and their text
-
--- it is written
-
 pub returns-in-Length : goal.returns-in-Length
 returns-in-Length c =
     let rows : List Row = rows_in c.args.care.now c.args.value.now in
-    let list : List ℕ = text_of c.args.n (take c.args.count (rows)) in
-    let given-text : write c.args.n c.args.count (rows) (length c.args.text.now) ≡ given (list) = (let (within, few) = form-count c.args.n c.args.count (rows) c.requires.value_value in
-    let inputs = leb-true c.args.n max_inputs (and_both (leb 1 c.args.n) (leb c.args.n max_inputs) c.requires.n_value).1 in let most = text-most c.args.n (take c.args.count (rows)) inputs (rw (length-take-le c.args.count (rows) within) few) in written c.args.n c.args.count (rows) (length c.args.text.now) c.requires.n_value c.requires.value_value (omega (arith, most))) in
+    let list : List ℕ = text_of c.args.n (take c.args.count rows) in
+    let given-text : write c.args.n c.args.count rows (length c.args.text.now) ≡ given list = (let (within, few) = form-count c.args.n c.args.count rows c.requires.value_value in
+    let inputs = leb-true c.args.n max_inputs (and_both (leb 1 c.args.n) (leb c.args.n max_inputs) c.requires.n_value).1 in
+    let most = text-most c.args.n (take c.args.count rows) inputs (rw (length-take-le c.args.count rows within) few) in
+    written c.args.n c.args.count rows (length c.args.text.now) c.requires.n_value c.requires.value_value (omega (arith, most))) in
     record {
-      value = written-size _ _ (list) (given-text) c.write.ensures.result_value _ c.in-Length.is;
-      text_after = rw (given-text) at c.write.ensures.text_after;
+      value = written-size _ _ list given-text c.write.ensures.result_value _ c.in-Length.is;
+      text_after = rw given-text at c.write.ensures.text_after;
     }
 
 pub returns-in-Refused : goal.returns-in-Refused
 returns-in-Refused c =
     let rows : List Row = rows_in c.args.care.now c.args.value.now in
-    let list : List ℕ = text_of c.args.n (take c.args.count (rows)) in
-    let given-text : write c.args.n c.args.count (rows) (length c.args.text.now) ≡ given (list) = (let (within, few) = form-count c.args.n c.args.count (rows) c.requires.value_value in
-    let inputs = leb-true c.args.n max_inputs (and_both (leb 1 c.args.n) (leb c.args.n max_inputs) c.requires.n_value).1 in let most = text-most c.args.n (take c.args.count (rows)) inputs (rw (length-take-le c.args.count (rows) within) few) in written c.args.n c.args.count (rows) (length c.args.text.now) c.requires.n_value c.requires.value_value (omega (arith, most))) in
-    absurd (never-refused _ _ (list) (given-text) c.write.ensures.result_value _ c.in-Refused.is)
+    let list : List ℕ = text_of c.args.n (take c.args.count rows) in
+    let given-text : write c.args.n c.args.count rows (length c.args.text.now) ≡ given list = (let (within, few) = form-count c.args.n c.args.count rows c.requires.value_value in
+    let inputs = leb-true c.args.n max_inputs (and_both (leb 1 c.args.n) (leb c.args.n max_inputs) c.requires.n_value).1 in
+    let most = text-most c.args.n (take c.args.count rows) inputs (rw (length-take-le c.args.count rows within) few) in
+    written c.args.n c.args.count rows (length c.args.text.now) c.requires.n_value c.requires.value_value (omega (arith, most))) in
+    absurd (never-refused _ _ list given-text c.write.ensures.result_value _ c.in-Refused.is)

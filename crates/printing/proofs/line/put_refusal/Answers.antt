@@ -1,3 +1,4 @@
+-- A refusal's line: the word, the number, and what follows it. There is room for each, since a line has at most 35 bytes.
 use mathlib.Core.List.{List, ◌++◌}
 use native.Mathlib.Omega.{arith}
 use Prim.Native.Nat.{ℕ}
@@ -10,32 +11,26 @@ use Rattle.pla.proofs.Positions.{puts_then, room-first, room-then}
 use Rattle.printing.proofs.Lines.{line-most}
 use Rattle.printing.proofs.line.put_refusal.Goals as goal
 
--- A refusal's line: the word, the number, and what follows it. There is room for each, since a line has at most 35 bytes.
-
 -- the line from its number on, and from what follows the number
-
 abbrev from_values : ℕ → Refusal → List ℕ
 from_values n f = settings_line n (refusal_reply f).values
 
 abbrev from_number : ℕ → Refusal → List ℕ
 from_number n f = digits (refusal_reply f).number ++ from_values n f
 
--- the function's entry, from each piece
-
--- room for the line, and for what is left after the first piece and the second
-
 pub put_digits-at-requires : goal.put_digits-at-requires
 put_digits-at-requires c =
     let room0 : Room 0 (refusal_line c.args.n (refusal_reply c.args.refusal)) c.args.text.now = record { fits = omega (arith, line-most c.args.n c.args.refusal c.requires.n_le_max_inputs) } in
-    let room1 : Room c.put_bytes-at.result (from_number c.args.n c.args.refusal) c.put_bytes-at.new.text = room-then (from_number c.args.n c.args.refusal) (room0) c.put_bytes-at.ensures in
-    rw c.number.ensures (room-first (digits (refusal_reply c.args.refusal).number) (from_values c.args.n c.args.refusal) (room1))
+    let room1 : Room c.put_bytes-at.result (from_number c.args.n c.args.refusal) c.put_bytes-at.new.text = room-then (from_number c.args.n c.args.refusal) room0 c.put_bytes-at.ensures in
+    rw c.number.ensures (room-first (digits (refusal_reply c.args.refusal).number) (from_values c.args.n c.args.refusal) room1)
 
 pub put_values-requires : goal.put_values-requires
 put_values-requires c =
     let room0 : Room 0 (refusal_line c.args.n (refusal_reply c.args.refusal)) c.args.text.now = record { fits = omega (arith, line-most c.args.n c.args.refusal c.requires.n_le_max_inputs) } in
-    let room1 : Room c.put_bytes-at.result (from_number c.args.n c.args.refusal) c.put_bytes-at.new.text = room-then (from_number c.args.n c.args.refusal) (room0) c.put_bytes-at.ensures in
-    let number_put : Puts c.put_bytes-at.result (digits (refusal_reply c.args.refusal).number) c.put_bytes-at.new.text c.put_digits-at.result c.put_digits-at.new.text = rw c.number.ensures at c.put_digits-at.ensures in
-    let room2 : Room c.put_digits-at.result (from_values c.args.n c.args.refusal) c.put_digits-at.new.text = room-then (from_values c.args.n c.args.refusal) (room1) (number_put) in
+    let room1 : Room c.put_bytes-at.result (from_number c.args.n c.args.refusal) c.put_bytes-at.new.text = room-then (from_number c.args.n c.args.refusal) room0 c.put_bytes-at.ensures in
+    let number_put : Puts c.put_bytes-at.result (digits (refusal_reply c.args.refusal).number) c.put_bytes-at.new.text c.put_digits-at.result c.put_digits-at.new.text =
+    rw c.number.ensures at c.put_digits-at.ensures in
+    let room2 : Room c.put_digits-at.result (from_values c.args.n c.args.refusal) c.put_digits-at.new.text = room-then (from_values c.args.n c.args.refusal) room1 number_put in
     record {
       n_le_max_inputs = c.requires.n_le_max_inputs;
       room = room2;
@@ -44,6 +39,7 @@ put_values-requires c =
 pub returns : goal.returns
 returns c =
     let room0 : Room 0 (refusal_line c.args.n (refusal_reply c.args.refusal)) c.args.text.now = record { fits = omega (arith, line-most c.args.n c.args.refusal c.requires.n_le_max_inputs) } in
-    let room1 : Room c.put_bytes-at.result (from_number c.args.n c.args.refusal) c.put_bytes-at.new.text = room-then (from_number c.args.n c.args.refusal) (room0) c.put_bytes-at.ensures in
-    let number_put : Puts c.put_bytes-at.result (digits (refusal_reply c.args.refusal).number) c.put_bytes-at.new.text c.put_digits-at.result c.put_digits-at.new.text = rw c.number.ensures at c.put_digits-at.ensures in
-    puts_then (room0) c.put_bytes-at.ensures (puts_then (room1) (number_put) c.put_values.ensures)
+    let room1 : Room c.put_bytes-at.result (from_number c.args.n c.args.refusal) c.put_bytes-at.new.text = room-then (from_number c.args.n c.args.refusal) room0 c.put_bytes-at.ensures in
+    let number_put : Puts c.put_bytes-at.result (digits (refusal_reply c.args.refusal).number) c.put_bytes-at.new.text c.put_digits-at.result c.put_digits-at.new.text =
+    rw c.number.ensures at c.put_digits-at.ensures in
+    puts_then room0 c.put_bytes-at.ensures (puts_then room1 number_put c.put_values.ensures)

@@ -1,3 +1,4 @@
+-- The loop has put the characters of the first k variables.
 use mathlib.Core.Path.{refl, sym, ap, ◌∙◌}
 use mathlib.Core.List.{◌++◌}
 use Prim.Native.Nat.{◌<◌}
@@ -7,10 +8,6 @@ use Rattle.rules.specs.Pla.{setting_chars}
 use Rattle.pla.proofs.Positions.{puts_none, puts-next}
 use Rattle.printing.proofs.Lines.{setting-more, setting-size}
 use Rattle.printing.proofs.line.put_setting.Goals as goal
-
--- The loop has put the characters of the first k variables.
-
--- there is room for the next character
 
 pub loop-k-init : goal.loop-k-init
 unfolding setting_chars
@@ -27,4 +24,8 @@ overflow_add-end c =
 pub loop-k-preserved : goal.loop-k-preserved
 loop-k-preserved c =
     let within : c.loop-k.end < length c.args.text.now = (let a = c.args in omega (arith, setting-size 1 c.loop-k.k a.s, setting-size 1 a.n a.s)) in
-    let a = c.args in let loop = c.loop-k in let more = puts-next c.setting_char.result (omega (arith, within, loop.invariant.2.next)) loop.invariant.2 in let chars = setting-more loop.k a.s ∙ ap (λ l. setting_chars 1 loop.k a.s ++ l) (sym c.setting_char.ensures) in (omega arith, length-set loop.text loop.end c.setting_char.result ∙ loop.invariant.1, rw chars more)
+    let a = c.args in
+    let loop = c.loop-k in
+    let more = puts-next c.setting_char.result (omega (arith, within, loop.invariant.2.next)) loop.invariant.2 in
+    let chars = setting-more loop.k a.s ∙ ap (λ l. setting_chars 1 loop.k a.s ++ l) (sym c.setting_char.ensures) in
+    (omega arith, length-set loop.text loop.end c.setting_char.result ∙ loop.invariant.1, rw chars more)

@@ -1,11 +1,10 @@
+-- The bit of variable k + 1 is bit k.
 use mathlib.Core.Path.{◌≡◌}
 use native.Mathlib.Omega.{arith}
 use Prim.Native.Nat.{◌+◌, ◌-◌}
 use borrow.Author.Tests.{ne_eqb}
 use Rattle.rules.specs.Pla.{setting_chars}
 use Rattle.printing.proofs.line.setting_char.Goals as goal
-
--- The bit of variable k + 1 is bit k.
 
 pub returns-then-s-k-eq1 : goal.returns-then-s-k-eq1
 unfolding setting_chars

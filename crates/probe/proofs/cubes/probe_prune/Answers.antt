@@ -1,3 +1,4 @@
+-- The answer and the marks are those of the rows lent; the records' words come back.
 use mathlib.Core.Path.{◌∙◌, ap}
 use mathlib.Core.List.{List, [], ◌∷◌}
 use Rattle.rules.specs.declared.Row.{Row}
@@ -6,8 +7,6 @@ use Rattle.rules.specs.Calls.{kept, prune}
 use Rattle.probe.specs.Packed.{packed_counts}
 use Rattle.probe.proofs.Runs.{same_rows, same-cares, same-values, new-marks}
 use Rattle.probe.proofs.cubes.probe_prune.Goals as goal
-
--- The answer and the marks are those of the rows lent; the records' words come back.
 
 pub returns : goal.returns
 returns c =

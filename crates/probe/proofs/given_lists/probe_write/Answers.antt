@@ -1,10 +1,9 @@
+-- The writer's reply, packed: a length is at most 6,933. The text is as the writer leaves it.
 use native.Mathlib.Omega.{arith}
 use lib.ListN.{length}
 use Rattle.rules.specs.Calls.{rows_in}
 use Rattle.pla.proofs.Verdict.{answer-few}
 use Rattle.probe.proofs.given_lists.probe_write.Goals as goal
-
--- The writer's reply, packed: a length is at most 6,933. The text is as the writer leaves it.
 
 pub write_reply-requires : goal.write_reply-requires
 write_reply-requires c =

@@ -1,3 +1,4 @@
+-- The step, packed: a number is no larger than V.
 use mathlib.Core.Path.{◌≡◌, ap}
 use mathlib.Core.List.{List, [], ◌∷◌}
 use mathlib.Core.Option.{Option}
@@ -8,8 +9,6 @@ use Rattle.rules.specs.Dimacs.{is_blank, not_blank, front, after_all, Token, num
 use Rattle.dimacs.proofs.TokenKinds.{Bounded, token-bounded}
 use Rattle.probe.specs.Packed.{size_of, size_in}
 use Rattle.probe.proofs.texts.probe_token.Goals as goal
-
--- The step, packed: a number is no larger than V.
 
 bounded-size : (v : ℕ) (t : Token) → Bounded v t → size_of t ≤ v
 bounded-size v (number z) l = l

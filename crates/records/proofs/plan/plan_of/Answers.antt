@@ -1,3 +1,4 @@
+-- The answer is the core's; it marks within the rows that were copied.
 use mathlib.Core.Path.{ap, ◌∙◌}
 use Prim.Native.Nat.{ℕ, ◌≤◌}
 use native.Mathlib.Omega.{arith}
@@ -6,8 +7,6 @@ use Rattle.rules.specs.Calls.{rows_in}
 use Rattle.rules.proofs.GivenRows.{rows-most}
 use Rattle.records.proofs.Planned.{plan-marks}
 use Rattle.records.proofs.plan.plan_of.Goals as goal
-
--- The answer is the core's; it marks within the rows that were copied.
 
 pub returns : goal.returns
 returns c =

@@ -1,3 +1,4 @@
+-- The loop has laid out the first k rows.
 use mathlib.Core.Path.{refl, ap, ◌∙◌}
 use mathlib.Core.List.{List}
 use Prim.Native.Nat.{ℕ, ◌+◌, ◌*◌}
@@ -6,8 +7,6 @@ use lib.ListN.{get_or, set, length-set}
 use Rattle.sheets.specs.Barred.{pairs_of}
 use Rattle.records.proofs.Laid.{row_more}
 use Rattle.records.proofs.words.lay.Goals as goal
-
--- The loop has laid out the first k rows.
 
 pub loop-k-init : goal.loop-k-init
 unfolding pairs_of

@@ -1,3 +1,4 @@
+-- The loop has marked the first k rows.
 use mathlib.Core.Path.{refl, ap, ◌∙◌}
 use mathlib.Core.List.{List}
 use Prim.Native.Nat.{ℕ}
@@ -6,8 +7,6 @@ use lib.ListN.{set, length-set}
 use Rattle.sheets.specs.Barred.{rows_of}
 use Rattle.records.proofs.Laid.{mark-more}
 use Rattle.records.proofs.words.mark.Goals as goal
-
--- The loop has marked the first k rows.
 
 pub loop-k-init : goal.loop-k-init
 unfolding rows_of

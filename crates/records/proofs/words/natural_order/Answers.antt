@@ -1,3 +1,4 @@
+-- The loop has written the first v numbers.
 use mathlib.Core.Path.{refl, ap, ◌∙◌}
 use mathlib.Core.List.{List}
 use Prim.Native.Nat.{ℕ, ◌+◌}
@@ -6,8 +7,6 @@ use lib.ListN.{set, length-set}
 use Rattle.rules.specs.Words.{counting}
 use Rattle.records.proofs.Laid.{order-more}
 use Rattle.records.proofs.words.natural_order.Goals as goal
-
--- The loop has written the first v numbers.
 
 pub loop-v-init : goal.loop-v-init
 unfolding counting

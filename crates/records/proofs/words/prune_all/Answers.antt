@@ -1,3 +1,4 @@
+-- Nothing stands before the rows, and no sheet is asked.
 use mathlib.Core.Path.{ap, ◌∙◌}
 use mathlib.Core.List.{List}
 use native.Mathlib.Nat.{zero-add}
@@ -7,8 +8,6 @@ use Rattle.rules.specs.Calls.{kept, words_of}
 use Rattle.sheets.specs.Barred.{pairs_of}
 use Rattle.records.proofs.Judged.{stay_all, left-all}
 use Rattle.records.proofs.words.prune_all.Goals as goal
-
--- Nothing stands before the rows, and no sheet is asked.
 
 pub prune-requires : goal.prune-requires
 unfolding words_of

@@ -1,3 +1,4 @@
+-- The rows are laid out, judged in the order 1..n, and marked by their blanks.
 use mathlib.Core.Path.{◌≡◌, ap, ◌∙◌}
 use mathlib.Core.Bool.{true}
 use mathlib.Core.List.{List}
@@ -13,8 +14,6 @@ use Rattle.given.proofs.InForm.{form-count}
 use Rattle.records.proofs.Laid.{order-first}
 use Rattle.records.proofs.Verdict.{laid-asked, laid-stay, left-marks}
 use Rattle.records.proofs.words.prune_given.Goals as goal
-
--- The rows are laid out, judged in the order 1..n, and marked by their blanks.
 
 -- the count is within both runs
 counts : (n count : ℕ) (cs vs : List ℕ) → in_form n count (rows_in cs vs) ≡ true → (count ≤ length cs) × ((count ≤ length vs) × (count ≤ max_rows))

@@ -1,3 +1,4 @@
+-- Each refusal is the verdict where the one before it does not apply; else the verdict is which rows stay.
 use mathlib.Core.Path.{sym, ap, ◌∙◌}
 use mathlib.Core.List.{[], ◌∷◌}
 use Prim.Native.Nat.{ℕ}
@@ -6,8 +7,6 @@ use Rattle.rules.specs.Calls.{rows_in}
 use Rattle.rules.proofs.Inputs.{inputs-between, inputs-none, inputs-many}
 use Rattle.records.proofs.Verdict.{refused-inputs, refused-list, pruned}
 use Rattle.records.proofs.words.prune_words.Goals as goal
-
--- Each refusal is the verdict where the one before it does not apply; else the verdict is which rows stay.
 
 pub returns-then-n-lt1 : goal.returns-then-n-lt1
 returns-then-n-lt1 c =

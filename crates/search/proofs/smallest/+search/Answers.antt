@@ -18,7 +18,10 @@ next_free-here-requires t c =
 
 pub returns-then-o-at : goal.returns-then-o-at
 returns-then-o-at t c =
-    let k = c.next_free-here.ensures in let r = c.args.row in let l = c.if-o-at.true in at-end _ _ _ r l (live-good _ _ _ _ r (all-passed _ _ r l (skip-passed _ r _ _ k c.requires.passed)) c.requires.asked.reach-a c.requires.asked.reach-b c.requires.asked.cares c.requires.row_value)
+    let k = c.next_free-here.ensures in
+    let r = c.args.row in
+    let l = c.if-o-at.true in
+    at-end _ _ _ r l (live-good _ _ _ _ r (all-passed _ _ r l (skip-passed _ r _ _ k c.requires.passed)) c.requires.asked.reach-a c.requires.asked.reach-b c.requires.asked.cares c.requires.row_value)
     ∙ sym (skip-same _ r _ _ k _)
 
 pub at_zero-low-requires : goal.at_zero-low-requires
@@ -38,12 +41,20 @@ live-requires t c =
 
 pub search-f-requires : goal.search-f-requires
 search-f-requires t c =
-    let k = c.next_free-here.ensures in let r = c.args.row in let l = c.if-o-at.false in let e = c.var_at-v.ensures in let p = passed-next _ _ _ l e r (skip-passed _ r _ _ k c.requires.passed) false _ c.at_zero-low.ensures in
+    let k = c.next_free-here.ensures in
+    let r = c.args.row in
+    let l = c.if-o-at.false in
+    let e = c.var_at-v.ensures in
+    let p = passed-next _ _ _ l e r (skip-passed _ r _ _ k c.requires.passed) false _ c.at_zero-low.ensures in
     (search rules, (c.requires.asked, (p, sym c.live.ensures ∙ c.if-live.true)))
 
 pub returns-in-At : goal.returns-in-At
 returns-in-At t c =
-    let k = c.next_free-here.ensures in let r = c.args.row in let l = c.if-o-at.false in let e = c.var_at-v.ensures in with-zero _ _ _ r _ l e (skip-stops _ r _ _ k l _ e) _ c.at_zero-low.ensures _ _ c.search-f.ensures c.in-At.is
+    let k = c.next_free-here.ensures in
+    let r = c.args.row in
+    let l = c.if-o-at.false in
+    let e = c.var_at-v.ensures in
+    with-zero _ _ _ r _ l e (skip-stops _ r _ _ k l _ e) _ c.at_zero-low.ensures _ _ c.search-f.ensures c.in-At.is
     ∙ sym (skip-same _ r _ _ k _)
 
 pub live-requires-2 : goal.live-requires-2
@@ -55,12 +66,20 @@ live-requires-2 t c =
 
 pub search-requires : goal.search-requires
 search-requires t c =
-    let k = c.next_free-here.ensures in let r = c.args.row in let l = c.if-o-at.false in let e = c.var_at-v.ensures in let p = passed-next _ _ _ l e r (skip-passed _ r _ _ k c.requires.passed) true _ c.at_one-high.ensures in
+    let k = c.next_free-here.ensures in
+    let r = c.args.row in
+    let l = c.if-o-at.false in
+    let e = c.var_at-v.ensures in
+    let p = passed-next _ _ _ l e r (skip-passed _ r _ _ k c.requires.passed) true _ c.at_one-high.ensures in
     (search rules, (c.requires.asked, (p, sym c.live-2.ensures ∙ c.if-live-2.true)))
 
 pub returns-then-live-2 : goal.returns-then-live-2
 returns-then-live-2 t c =
-    let k = c.next_free-here.ensures in let r = c.args.row in let l = c.if-o-at.false in let e = c.var_at-v.ensures in with-one _ _ _ r _ l e (skip-stops _ r _ _ k l _ e) _ c.at_zero-low.ensures _ c.at_one-high.ensures _
+    let k = c.next_free-here.ensures in
+    let r = c.args.row in
+    let l = c.if-o-at.false in
+    let e = c.var_at-v.ensures in
+    with-one _ _ _ r _ l e (skip-stops _ r _ _ k l _ e) _ c.at_zero-low.ensures _ c.at_one-high.ensures _
     (elim c.if-live.branch [
       | then-live+in_default w ↦ sym w.search-f.ensures ∙ ap found_as w.in_default.is
       | else-live w ↦ left _ _ _ _ _ (sym c.live.ensures ∙ w.if-live.false)
@@ -70,7 +89,11 @@ returns-then-live-2 t c =
 
 pub returns : goal.returns
 returns t c =
-    let k = c.next_free-here.ensures in let r = c.args.row in let l = c.if-o-at.false in let e = c.var_at-v.ensures in with-one _ _ _ r _ l e (skip-stops _ r _ _ k l _ e) _ c.at_zero-low.ensures _ c.at_one-high.ensures _
+    let k = c.next_free-here.ensures in
+    let r = c.args.row in
+    let l = c.if-o-at.false in
+    let e = c.var_at-v.ensures in
+    with-one _ _ _ r _ l e (skip-stops _ r _ _ k l _ e) _ c.at_zero-low.ensures _ c.at_one-high.ensures _
     (elim c.if-live.branch [
       | then-live+in_default w ↦ sym w.search-f.ensures ∙ ap found_as w.in_default.is
       | else-live w ↦ left _ _ _ _ _ (sym c.live.ensures ∙ w.if-live.false)

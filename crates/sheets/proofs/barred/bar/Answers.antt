@@ -22,7 +22,15 @@ with-clause-requires c = (
 
 pub loop-k-preserved : goal.loop-k-preserved
 loop-k-preserved c =
-    let h = c.loop-k-test.true in let e = c.number_at-w.ensures in elim c.if-w-eq0.branch [ then-w-eq0 w ↦ close-turn _ _ c.requires.sheet_in_bounds c.loop-k.k _ _ _ c.loop-k.invariant _ h e w.if-w-eq0.true _ _ _ _ w.rows-is w.write-count.ensures.rows_after (w.count-is ∙ w.write-count.ensures.value) (w.clause-is ∙ w.empty-clause-then-w-eq0.ensures) | else-w-eq0 w ↦ literal-turn _ _ c.requires.sheet_in_bounds c.loop-k.k _ _ _ c.loop-k.invariant _ h e w.if-w-eq0.false _ _ _ w.rows-is w.count-is (w.clause-is ∙ w.with-clause.ensures) ]
+    let h = c.loop-k-test.true in
+    let e = c.number_at-w.ensures in
+    elim c.if-w-eq0.branch [
+      | then-w-eq0 w ↦
+          close-turn _ _ c.requires.sheet_in_bounds c.loop-k.k _ _ _ c.loop-k.invariant _ h e w.if-w-eq0.true
+          _ _ _ _ w.rows-is w.write-count.ensures.rows_after (w.count-is ∙ w.write-count.ensures.value) (w.clause-is ∙ w.empty-clause-then-w-eq0.ensures)
+      | else-w-eq0 w ↦
+          literal-turn _ _ c.requires.sheet_in_bounds c.loop-k.k _ _ _ c.loop-k.invariant _ h e w.if-w-eq0.false _ _ _ w.rows-is w.count-is (w.clause-is ∙ w.with-clause.ensures)
+    ]
 
 pub returns : goal.returns
 returns c =

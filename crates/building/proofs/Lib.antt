@@ -1,4 +1,4 @@
 -- Laws behind list building, by subject.
-pub mod Pruned
-pub mod Building
-pub mod Builds
+pub mod Asking
+pub mod Making
+pub mod Standing

@@ -1,41 +1,66 @@
--- What list building is lent, and what it leaves.
-use Rattle.std.specs.Prelude.{◌≡◌, List, [], ◌∷◌, ◌++◌, ℕ, ◌+◌, ◌*◌, ◌≤◌, length}
+-- What list building is asked, and what it answers.
+use Rattle.std.specs.Prelude.{◌≡◌, true, false, List, [], ℕ, Bool, length, take, drop, Result, Ok, Err}
+use Rattle.std.proofs.Math.Option.{Option}
 use Rattle.rules.specs.declared.Row.{Row}
-use Rattle.rules.specs.Words.{one}
-use Rattle.rules.specs.Method.{max_rows}
-use Rattle.rules.specs.Answers.{Reply, answered, refusal_reply}
-use Rattle.sheets.specs.Barred.{rows_of}
-use Rattle.sheets.specs.Numbers.{numbers_of}
-use Rattle.search.specs.Question.{Asked}
+use Rattle.rules.specs.declared.Refusal.{Refusal}
+use Rattle.rules.specs.Method.{generated, complete}
+use Rattle.rules.specs.Answers.{Verdict, given, refused, refusal_reply}
+use Rattle.rules.specs.Search.{found}
+use Rattle.rules.specs.Calls.{Partial, collision, listed, whole_for, partial_for}
 use Rattle.method.specs.Blank.{solid}
-use Rattle.method.specs.Lent.{first_rows, behind}
+use Rattle.method.specs.Lent.{asks, behind}
+use Rattle.building.specs.declared.lent.Lent.{Lent}
 use Rattle.building.specs.declared.build.Built.{Built}
-use Rattle.building.specs.declared.build_part.Part.{Part}
+use Rattle.method.specs.declared.generate.Generated.{Generated}
 
--- Sheets in place; `both` keeps the rows that off's other clauses bar, `offs` of them, and then on's; `kept` begins with on's alone.
-pub record Lent (order on off both : List ℕ) (offs : ℕ) (kept : List ℕ) (ons : ℕ) : Type 0 where
-  pub on-asked : Asked order (numbers_of on) [] (first_rows ons kept)
-  pub off-asked : Asked order (numbers_of off) [] (first_rows offs both)
-  pub both-asked : Asked order (numbers_of on) (numbers_of off) (rows_of both)
-  pub joined : rows_of both ≡ first_rows offs both ++ first_rows ons kept
-  pub within : 2 * offs ≤ length both
-  pub room : 2 * (ons + max_rows) ≤ length kept
+-- the rows that the other clauses of each sheet bar
+abbrev pub off_rows : Lent → List Row
+off_rows lent = take lent.offs lent.both.now
 
--- The count of rows that stay, or the refusal.
-abbrev pub built_reply : Built → Reply
-built_reply (Built.Rows count generated) = answered (count ∷ [])
-built_reply (Built.Refused f) = refusal_reply f
+abbrev pub on_rows : Lent → List Row
+on_rows lent = drop lent.offs lent.both.now
 
--- The generated rows stand behind the first ons rows, blanks where they went; the rest are the list.
-abbrev pub Stands : Built → ℕ → List ℕ → List Row → Type 0
-Stands (Built.Rows count generated) ons words rows = (2 * (ons + generated) ≤ length words) × (solid (behind ons generated words) ≡ rows)
-Stands (Built.Refused f) ons words rows = Unit {0}
+-- the count rows of a run that stand behind those that on's other clauses bar
+abbrev pub generated_in : Lent → ℕ → List Row → List Row
+generated_in lent count kept = behind (length (on_rows lent)) count kept
 
--- The count of the first generated rows and whether they are all, or the refusal; and the rows stand behind the first ons rows.
-abbrev pub part_reply : Part → Reply
-part_reply (Part.Rows count complete) = answered (count ∷ one complete ∷ [])
-part_reply (Part.Refused f) = refusal_reply f
+-- the settings that each sheet asks for
+abbrev pub off_at : Lent → ℕ → Bool
+off_at lent = asks lent.off.now (off_rows lent)
 
-abbrev pub PartStands : Part → ℕ → List ℕ → List Row → Type 0
-PartStands (Part.Rows count complete) ons words rows = (2 * (ons + count) ≤ length words) × (behind ons count words ≡ rows)
-PartStands (Part.Refused f) ons words rows = Unit {0}
+abbrev pub on_at : Lent → ℕ → Bool
+on_at lent = asks lent.on.now (on_rows lent)
+
+-- what the list calls give where only these settings are looked at, with room for so many rows
+abbrev pub whole_of : Lent → ℕ → Verdict (List Row)
+whole_of lent room = whole_for [] lent.order.now (on_at lent) (off_at lent) room
+
+abbrev pub part_of : Lent → ℕ → ℕ → Verdict Partial
+part_of lent k room = partial_for [] lent.order.now (on_at lent) (off_at lent) k room
+
+-- the smallest setting that both ask for, and the first k generated rows
+abbrev pub collision_of : Lent → Option ℕ
+collision_of lent = collision lent.order.now (on_at lent) (off_at lent)
+
+abbrev pub generated_of : Lent → ℕ → List Row
+generated_of lent k = generated lent.order.now (on_at lent) (off_at lent) k
+
+-- the sheets collide, and the refusal says at which setting
+pub record Collides (lent : Lent) (f : Refusal) : Type 0 where
+  pub met : found (collision_of lent) ≡ true
+  pub reply : refusal_reply f ≡ record { number = 6; values = listed (collision_of lent) }
+
+-- they do not; the rows are the first k generated ones, and it is told whether generation has no more
+pub record Made (lent : Lent) (k : ℕ) (rows : List Row) (whole : Bool) : Type 0 where
+  pub apart : found (collision_of lent) ≡ false
+  pub rows_are : rows ≡ generated_of lent k
+  pub whole_is : whole ≡ complete lent.order.now (on_at lent) (generated_of lent k)
+
+-- an answer, and the run after it, as a verdict: the list is the generated rows that are no blanks
+abbrev pub built_as : Lent → Result Built Refusal → List Row → Verdict (List Row)
+built_as lent (Ok built) kept = given (solid (generated_in lent built.generated kept))
+built_as lent (Err f) kept = refused (refusal_reply f)
+
+abbrev pub part_as : Lent → Result Generated Refusal → List Row → Verdict Partial
+part_as lent (Ok part) kept = given (record { rows = generated_in lent part.count kept; is_all = part.complete })
+part_as lent (Err f) kept = refused (refusal_reply f)

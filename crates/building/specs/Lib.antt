@@ -1,2 +1,2 @@
--- What list building is lent, and what it leaves.
+-- What list building is asked, and what it answers.
 pub mod Built

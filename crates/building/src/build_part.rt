@@ -1,74 +1,32 @@
 // The first generated rows of what is lent, none of them pruned.
-ghost use Rattle.std.specs.Prelude.{◌≡◌, true, [], ◌≤◌, length};
-ghost use Rattle.rules.specs.Words.{is_order};
-ghost use Rattle.rules.specs.Method.{max_rows, generated};
-ghost use Rattle.rules.specs.Answers.{reply_of};
-ghost use Rattle.rules.specs.Calls.{partial_for, partial_values};
-ghost use Rattle.method.specs.Lent.{asks, first_rows};
-ghost use Rattle.building.specs.Built.{Lent, part_reply, PartStands};
+ghost use Rattle.std.specs.Prelude.{◌≡◌, ◌+◌, ◌≤◌, IfOk, length};
+ghost use Rattle.rules.specs.Method.{max_rows};
+ghost use Rattle.method.specs.Blank.{solid};
+ghost use Rattle.building.specs.Built.{generated_in, on_rows, part_as, part_of};
 
-use method::generate::generate;
+use crate::apart::generate_apart;
+use crate::lent::Lent;
+use method::generate::Generated;
 use rules::{Refusal, Row};
-use search::{Found, find_first};
-use swift::swift_order;
 
-// How many rows were generated, and whether generation has no more.
-#[derive(Clone, Copy)]
-pub enum Part {
-    Rows(usize, bool),
-    Refused(Refusal),
-}
-
-// The first generated rows of what is lent, by questions in the swift order.
-fn part_by(
-    order: &[u32],
-    swift: &[u32],
-    on: &[u8],
-    off: &[u8],
-    both: &[u32],
-    offs: usize,
-    kept: &mut [u32],
-    ons: usize,
-    k: usize,
-    room: usize,
-) -> Part
-    requires swift_value { is_order (length order.now) swift.now ≡ true }
-    requires lent { Lent order.now on.now off.now both.now offs kept.old ons }
-    requires k_le_max_rows { k ≤ max_rows }
-    ensures result_value { part_reply result ≡ reply_of partial_values (partial_for [] order.now (asks on.now (first_rows ons kept.old)) (asks off.now (first_rows offs both.now)) k room) }
-    ensures part_stands { PartStands result ons kept.new (generated order.now (asks on.now (first_rows ons kept.old)) (asks off.now (first_rows offs both.now)) k) }
-{
-    let met = find_first(order, swift, on, off, both);
-    if let Found::At(s) = met {
-        return Part::Refused(Refusal::Collision(s));
-    }
-    let made = generate(order, swift, on, off, &both[..2 * offs], kept, ons, k);
-    let count = made.count;
-    if room < count {
-        return Part::Refused(Refusal::Room);
-    }
-    Part::Rows(count, made.complete)
-}
-
-// The count of the first k generated rows, which stand behind on's, or the refusal.
+// The first k generated rows, which stand in the run behind those that on's other clauses bar, or the refusal.
+#[tactic(auto, using(crate::proofs::Making::rows_solid), unfolding(rules::specs::Calls::partial_for, rules::specs::Answers::judge))]
 pub fn build_part(
-    order: &[u32],
-    on: &[u8],
-    off: &[u8],
-    both: &[u32],
-    offs: usize,
-    kept: &mut [u32],
-    ons: usize,
+    lent: &Lent,
+    kept: &mut [Row],
     k: usize,
     room: usize,
-) -> Part
-    requires lent { Lent order.now on.now off.now both.now offs kept.old ons }
+) -> Result<Generated, Refusal>
+    requires max_rows_in_bounds { length (on_rows lent.now) + max_rows ≤ length kept.old }
     requires k_le_max_rows { k ≤ max_rows }
-    ensures result_value { part_reply result ≡ reply_of partial_values (partial_for [] order.now (asks on.now (first_rows ons kept.old)) (asks off.now (first_rows offs both.now)) k room) }
-    ensures part_stands { PartStands result ons kept.new (generated order.now (asks on.now (first_rows ons kept.old)) (asks off.now (first_rows offs both.now)) k) }
+    ensures verdict { part_as lent.now result kept.new ≡ part_of lent.now k room }
+    ensures within { IfOk result (λ part. length (on_rows lent.now) + part.count ≤ length kept.new) }
+    ensures solid_value { IfOk result (λ part. solid (generated_in lent.now part.count kept.new) ≡ generated_in lent.now part.count kept.new) }
+    ensures fits { IfOk result (λ part. part.count ≤ room) }
 {
-    let mut space = [0; Row::MAX_INPUTS as usize];
-    let n = order.len();
-    swift_order(order, both, on, off, &mut space[..n]);
-    part_by(order, &space[..n], on, off, both, offs, kept, ons, k, room)
+    let Generated { count, complete } = generate_apart(lent, kept, k)?;
+    if room < count {
+        return Err(Refusal::Room);
+    }
+    Ok(Generated { count, complete })
 }

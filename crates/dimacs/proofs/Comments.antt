@@ -1,36 +1,34 @@
--- Comment lines, byte by byte.
-use mathlib.Core.Path.{◌≡◌}
-use mathlib.Core.Bool.{Bool, true, false, not}
-use mathlib.Core.List.{List}
-use mathlib.Core.Option.{none, some}
-use Prim.Native.Nat.{ℕ, ◌+◌, ◌<◌, ◌≤◌}
-use lib.Dec.{eqb}
-use lib.ListN.{length, drop, get_or, drop_of_length-le}
-use borrow.Author.Tests.{ne_eqb}
-use Rattle.rules.specs.Dimacs.{after_comments}
-use Rattle.dimacs.proofs.Passing.{byte_at}
+-- Comment lines, one by one.
+use Rattle.std.proofs.Common.{◌≡◌, refl, Bool, true, false, not, List, [], ◌∷◌, ℕ, eqb, take, drop}
+use Rattle.std.proofs.Math.Option.{none, some}
+use Rattle.std.specs.Cmp.Lexicographic.{pointwise}
+use borrow.Author.Tests.{eqb-true}
+use Rattle.rules.specs.Dimacs.{after_comments, after_all}
+use Rattle.rules.proofs.Logic.{test, clash}
 
-module _ (text : List ℕ) (i : ℕ) where
-  -- outside a comment line another byte than `c` begins the rest; `c` begins a line, and inside it all is passed
-  pub begins : (inside : Bool) → inside ≡ false → i < length text → (get_or text i 0 ≡ 99 → ⊥) → some (drop i text) ≡ after_comments inside (drop i text)
-  unfolding after_comments
-  begins inside p l e = rw (p, byte_at text i l, ne_eqb _ 99 e)
+-- `c` begins one
+pub comment-begins : (t : List ℕ) → pointwise eqb (take 1 t) (99 ∷ []) ≡ true → after_comments false t ≡ after_comments true (drop 1 t)
+unfolding after_comments
+comment-begins [] p = clash p refl
+comment-begins (b ∷ t) p = test (eqb b 99) (λ q. rw q) λ q. clash p (rw q)
 
-  pub enters : (inside : Bool) → inside ≡ false → i < length text → get_or text i 0 ≡ 99
-      → after_comments inside (drop i text) ≡ after_comments (not (eqb (get_or text i 0) 10)) (drop (i + 1) text)
-  unfolding after_comments
-  enters inside p l e = rw (p, byte_at text i l, e)
+pub no_comment : (t : List ℕ) → pointwise eqb (take 1 t) (99 ∷ []) ≡ false → after_comments false t ≡ some t
+unfolding after_comments
+no_comment [] p = refl
+no_comment (b ∷ t) p = test (eqb b 99) (λ q. clash (rw q) p) λ q. rw q
 
-  pub stays : (inside : Bool) → inside ≡ true → i < length text
-      → after_comments inside (drop i text) ≡ after_comments (not (eqb (get_or text i 0) 10)) (drop (i + 1) text)
-  unfolding after_comments
-  stays inside p l = rw (p, byte_at text i l)
+-- a line feed ends it
+abbrev pub in_line : ℕ → Bool
+in_line b = not (eqb b 10)
 
-  -- the text's end, inside a line and outside
-  pub unclosed : (inside : Bool) → inside ≡ true → length text ≤ i → none ≡ after_comments inside (drop i text)
-  unfolding after_comments
-  unclosed inside p l = rw (p, drop_of_length-le text l)
+pub comment-ends : (t : List ℕ) → pointwise eqb (take 1 (after_all in_line t)) (10 ∷ []) ≡ true → after_comments true t ≡ after_comments false (drop 1 (after_all in_line t))
+unfolding after_comments after_all
+comment-ends [] p = clash p refl
+comment-ends (b ∷ t) p = test (eqb b 10) (λ q. rw (q, after_comments)) λ q. rw (q, after_comments) (comment-ends t (rw q at p))
 
-  pub closed : (inside : Bool) → inside ≡ false → length text ≤ i → some (drop i text) ≡ after_comments inside (drop i text)
-  unfolding after_comments
-  closed inside p l = rw (p, drop_of_length-le text l)
+pub comment-open : (t : List ℕ) → pointwise eqb (take 1 (after_all in_line t)) (10 ∷ []) ≡ false → after_comments true t ≡ none
+unfolding after_comments after_all
+comment-open [] p = refl
+comment-open (b ∷ t) p = test (eqb b 10) (λ q. clash refl (rw (eqb-true b 10 q) at p)) λ q. rw (q, after_comments) (comment-open t (rw q at p))
+
+pub ruleset comments = (comment-begins, no_comment, comment-ends, comment-open)

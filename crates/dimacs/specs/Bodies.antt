@@ -1,28 +1,30 @@
--- The numbers of a body from a position on, and what is counted of them.
-use Rattle.std.specs.Prelude.{◌≡◌, true, List, [], ◌∷◌, ◌++◌, ℕ, ◌+◌, ◌≤◌, ◌<◌, ℤ, length, drop}
-use Rattle.std.proofs.Math.Option.{Option, none, some, get_or}
+-- The numbers of a body, and what is counted of them.
+use Rattle.std.specs.Prelude.{◌≡◌, true, List, [], ◌∷◌, ℕ, ◌+◌, ◌<◌, ◌≤◌, ℤ, length, Option, Some, None, Result, Ok, Err}
+use Rattle.std.proofs.Math.Option as math
+use Rattle.rules.specs.declared.Refusal.{Refusal}
+use Rattle.rules.specs.declared.Refusal.TheVariants as refusal
 use Rattle.rules.specs.Words.{one}
-use Rattle.rules.specs.Sheets.{closes}
+use Rattle.rules.specs.Sheets.{closes, clauses, ends_closed}
 use Rattle.rules.specs.Dimacs.{◌>>=◌, tokens, numbers}
-use Rattle.dimacs.specs.declared.body.Next.{Next}
-use Rattle.dimacs.specs.declared.body.Next.TheVariants.{Number, End, Bad}
-use Rattle.dimacs.specs.declared.body.Tally.{Tally}
 use Rattle.dimacs.specs.declared.body.Body.{Body}
-use Rattle.dimacs.specs.declared.body.Body.TheVariants as body
+use Rattle.dimacs.specs.declared.body.Tally.{Tally}
 
--- the numbers of a body from a position on; nothing where a token is not in form
-unfoldable pub numbers_from : ℕ → List ℕ → ℕ → Option (List ℤ)
-numbers_from v text at = numbers v (tokens (drop at text))
+-- the numbers of a body; nothing where a token is not in form
+unfoldable pub numbers_in : ℕ → List ℕ → math.Option (List ℤ)
+numbers_in v text = numbers v (tokens text)
+
+abbrev pub numbers_of : Body → math.Option (List ℤ)
+numbers_of b = numbers_in b.inputs.count b.text.now
 
 -- one number before the others
-unfoldable pub prepend : ℤ → Option (List ℤ) → Option (List ℤ)
-prepend z later = later >>= λ zs. some (z ∷ zs)
+unfoldable pub prepend : ℤ → math.Option (List ℤ) → math.Option (List ℤ)
+prepend z later = later >>= λ zs. math.some (z ∷ zs)
 
--- what the next number says of them
-abbrev pub Follows : ℕ → List ℕ → ℕ → Next → Type 0
-Follows v text at (Number z place) = (numbers_from v text at ≡ prepend z (numbers_from v text place)) × ((at < place) × (place ≤ length text))
-Follows v text at End = numbers_from v text at ≡ some []
-Follows v text at Bad = numbers_from v text at ≡ none
+-- what the next number says of them, and of those that are left then
+abbrev pub Follows : Body → Body → Result (Option ℤ) Refusal → Type 0
+Follows b later (Ok (Some z)) = (numbers_of b ≡ prepend z (numbers_of later)) × (length later.text.now < length b.text.now)
+Follows b later (Ok None) = numbers_of b ≡ math.some []
+Follows b later (Err f) = (numbers_of b ≡ math.none) × (f ≡ refusal.Token)
 
 -- of no numbers; with one more; with all of these
 abbrev pub nothing : Tally
@@ -32,23 +34,19 @@ unfoldable pub counted : ℤ → Tally → Tally
 counted z t = record { numbers = t.numbers + 1; zeros = t.zeros + one (closes z); closed = closes z }
 
 unfoldable pub counted_all : Tally → List ℤ → Tally
-counted_all t [] = t
-counted_all t (z ∷ zs) = counted_all (counted z t) zs
+counted_all t zs = record { numbers = t.numbers + length zs; zeros = t.zeros + clauses zs; closed = ends_closed t.closed zs }
 
-unfoldable pub judged : Tally → Option (List ℤ) → Option Tally
-judged t later = later >>= λ zs. some (counted_all t zs)
+unfoldable pub judged : Tally → math.Option (List ℤ) → math.Option Tally
+judged t later = later >>= λ zs. math.some (counted_all t zs)
 
-abbrev pub body_is : Body → Option Tally
-body_is (body.Sheet t) = some t
-body_is body.Bad = none
+abbrev pub body_is : Result Tally Refusal → math.Option Tally
+body_is (Ok t) = math.some t
+body_is (Err f) = math.none
 
--- numbers read before the others; the numbers of a body in form; and that they fit into so many cells
-unfoldable pub prepend_all : List ℤ → Option (List ℤ) → Option (List ℤ)
-prepend_all seen later = later >>= λ zs. some (seen ++ zs)
+-- the numbers of a body in form; and that they fit into so many cells
+abbrev pub sheet_of : math.Option (List ℤ) → List ℤ
+sheet_of body = math.get_or body []
 
-abbrev pub sheet_of : Option (List ℤ) → List ℤ
-sheet_of body = get_or body []
-
-abbrev pub HasRoom : Option (List ℤ) → ℕ → Type 0
-HasRoom none room = ⊥
-HasRoom (some zs) room = length zs ≤ room
+pub record HasRoom (body : math.Option (List ℤ)) (room : ℕ) : Type 0 where
+  pub form : body ≡ math.some (sheet_of body)
+  pub fits : length (sheet_of body) ≤ room

@@ -1,5 +1,4 @@
 -- What this crate's own types say, in the words of the rules.
-pub mod Kinds
 pub mod Parts
 pub mod Rests
 pub mod Heads

@@ -1,14 +1,12 @@
--- What is left of a text, by the position where it begins.
-use Rattle.std.specs.Prelude.{List, ℕ, ◌≤◌, length, drop}
-use Rattle.std.proofs.Math.Option.{Option, none, some}
-use Rattle.dimacs.specs.declared.scan.Rest.{Rest}
-use Rattle.dimacs.specs.declared.scan.Rest.TheVariants.{At, Missing}
+-- What is left of a text.
+use Rattle.std.specs.Prelude.{◌≡◌, Bool, List, ℕ, Option, Some, None}
+use Rattle.std.specs.Borrow.{Bor}
+use Rattle.std.proofs.Math.Option as math
 
-abbrev pub rest_of : List ℕ → Rest → Option (List ℕ)
-rest_of text (At i) = some (drop i text)
-rest_of text Missing = none
+-- a test on bytes, by what it answers, tells this kind
+abbrev pub Tells : (ℕ → Bool → Type 0) → (ℕ → Bool) → Type 0
+Tells answers kind = (b : ℕ) (r : Bool) → answers b r → r ≡ kind b
 
--- the position lies in the text or at its end
-abbrev pub InText : List ℕ → Rest → Type 0
-InText text (At i) = i ≤ length text
-InText text Missing = Unit {0}
+abbrev pub rest_of : Option (Bor (List ℕ)) → math.Option (List ℕ)
+rest_of (Some t) = math.some t.now
+rest_of None = math.none

@@ -5,7 +5,7 @@ use Rattle.rules.specs.Sheets.{max_numbers, clauses, ends_closed}
 use Rattle.rules.specs.Answers.{check, refusal, Verdict, refused, judge, after}
 use Rattle.rules.specs.Calls.{Read, refusal15}
 use Rattle.dimacs.specs.declared.header.Header.{Header}
-use Rattle.dimacs.specs.Bodies.{numbers_from}
+use Rattle.dimacs.specs.Bodies.{numbers_of}
 
 -- for V, C, the body's numbers (nothing where a token is not in form) and so many cells
 unfoldable pub body_verdict : ℕ → ℕ → Option (List ℤ) → ℕ → Verdict Read
@@ -15,8 +15,8 @@ body_verdict v c (some zs) room =
     (record { inputs = v; numbers = zs })
 
 -- for a header that was read
-abbrev pub verdict_for : Header → List ℕ → ℕ → Verdict Read
-verdict_for h text room = body_verdict h.inputs h.clauses (numbers_from h.inputs text h.body) room
+abbrev pub verdict_for : Header → ℕ → Verdict Read
+verdict_for h room = body_verdict h.body.inputs.count h.clauses (numbers_of h.body) room
 
 -- the cells afterwards
 abbrev pub cells_of : Verdict Read → List ℤ → List ℤ

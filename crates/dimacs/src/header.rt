@@ -1,150 +1,72 @@
 // The header: comment lines, `p`, `cnf`, V and C, up to the end of its line.
-ghost use Rattle.std.specs.Prelude.{◌≡◌, false, ◌≤◌, length, drop};
-ghost use Rattle.rules.specs.Dimacs.{after_comments, header_end, header};
-ghost use Rattle.dimacs.specs.Rests.{rest_of, InText};
-ghost use Rattle.dimacs.specs.Heads.{after_return, after_word, opening, number_at, field_of, InField, counts, head_of, InHead};
+ghost use Rattle.std.specs.Prelude.{◌≡◌, false};
+ghost use Rattle.rules.specs.Dimacs.{after_comments, line_end, header_end, header};
+ghost use Rattle.dimacs.specs.Rests.{rest_of};
+ghost use Rattle.dimacs.specs.Heads.{head_of};
 
-use crate::decimal::{Decimal, decimal_within};
-use crate::scan::{Kind, Rest, after_all, after_bytes, after_spaces};
-use rules::{Row, Sheet};
+use crate::body::Body;
+use crate::decimal::decimal_within;
+use crate::scan::{after_spaces, split_front};
+use rules::{Inputs, Row, Sheet};
 
-// V, C and where the body begins.
+// V with the body over it, and C.
 #[derive(Clone, Copy)]
-pub struct Header {
-    pub inputs: u32,
-    pub clauses: u32,
-    pub body: usize,
+pub struct Header<'a> {
+    pub body: Body<'a>,
+    pub clauses: usize,
 }
 
-#[derive(Clone, Copy)]
-pub enum Head {
-    Found(Header),
-    Missing,
-}
-
-// The rest behind the comment lines. A comment's first byte is no line feed, so it counts as inside its line.
-fn after_comments(text: &[u8]) -> Rest
-    ensures left { rest_of text.now result ≡ after_comments false text.now }
-    ensures high { InText text.now result }
+// The rest behind the comment lines.
+#[tactic(auto, using(crate::proofs::Comments::comments))]
+fn after_comments(text: &[u8]) -> Option<&[u8]>
+    ensures { rest_of result ≡ after_comments false text.now }
 {
-    let mut inside = false;
-    let mut i = 0;
-    while i < text.len() {
-        let b = text[i];
-        if !inside {
-            if b != b'c' {
-                return Rest::At(i);
-            }
-        }
-        inside = b != b'\n';
-        i += 1;
+    let mut rest = text;
+    while let Some(comment) = rest.strip_prefix(b"c") {
+        let (_, end) = split_front(comment, |b| b != b'\n');
+        rest = end.strip_prefix(b"\n")?;
     }
-    if inside { Rest::Missing } else { Rest::At(i) }
+    Some(rest)
 }
 
-// The rest behind a word and the spaces that follow it.
-fn after_word(word: &[u8], text: &[u8], at: usize) -> Rest
-    requires { at ≤ length text.now }
-    ensures left { rest_of text.now result ≡ after_word word.now (drop at text.now) }
-    ensures high { InText text.now result }
+// The rest behind a line feed, or the empty rest where the text ends.
+#[tactic(auto, using(crate::proofs::Bytes::words))]
+fn line_end(text: &[u8]) -> Option<&[u8]>
+    ensures { rest_of result ≡ line_end text.now }
 {
-    match after_bytes(word, text, at) {
-        Rest::At(i) => after_spaces(text, i),
-        Rest::Missing => Rest::Missing,
+    if text.is_empty() {
+        return Some(text);
     }
-}
-
-// Comments, `p` and `cnf`.
-fn opening(text: &[u8]) -> Rest
-    ensures left { rest_of text.now result ≡ opening text.now }
-    ensures high { InText text.now result }
-{
-    let Rest::At(p) = after_comments(text) else {
-        return Rest::Missing;
-    };
-    let Rest::At(cnf) = after_word(b"p", text, p) else {
-        return Rest::Missing;
-    };
-    after_word(b"cnf", text, cnf)
-}
-
-// The position behind a carriage return, if there is one.
-fn after_return(text: &[u8], at: usize) -> usize
-    requires { at ≤ length text.now }
-    ensures left { drop result text.now ≡ after_return (drop at text.now) }
-    ensures high { result ≤ length text.now }
-{
-    match after_bytes(b"\r", text, at) {
-        Rest::At(i) => i,
-        Rest::Missing => at,
-    }
+    text.strip_prefix(b"\n")
 }
 
 // The rest behind the header's line.
-fn header_end(text: &[u8], at: usize) -> Rest
-    requires { at ≤ length text.now }
-    ensures left { rest_of text.now result ≡ header_end (drop at text.now) }
-    ensures high { InText text.now result }
+#[tactic(auto, using(crate::proofs::Bytes::words))]
+fn header_end(text: &[u8]) -> Option<&[u8]>
+    ensures { rest_of result ≡ header_end text.now }
 {
-    let gap = after_all(Kind::Gap, text, at);
-    let end = after_return(text, gap);
-    if text.len() <= end {
-        return Rest::At(end);
-    }
-    after_bytes(b"\n", text, end)
+    let (_, rest) = split_front(text, |b| matches!(b, b' ' | b'\t'));
+    line_end(rest.strip_prefix(b"\r").unwrap_or(rest))
 }
 
-// A number and the position behind it.
-#[derive(Clone, Copy)]
-pub enum Field {
-    Given(u32, usize),
-    Missing,
-}
-
-// The decimal at a position, within the bounds.
-fn number_at(text: &[u8], at: usize, low: u32, high: u32) -> Field
-    requires { at ≤ length text.now }
-    ensures left { field_of text.now result ≡ number_at low high (drop at text.now) }
-    ensures high { InField text.now result }
+// The header in form, or none.
+#[tactic(auto, using(crate::proofs::Bytes::words), unfolding(rules::specs::Dimacs::header, crate::specs::Parts::decimal_within))]
+pub fn header_of(text: &[u8]) -> Option<Header<'_>>
+    ensures { head_of result ≡ header text.now }
 {
-    let end = after_all(Kind::Digit, text, at);
-    match decimal_within(&text[at..end], low, high) {
-        Decimal::Number(m) => Field::Given(m, end),
-        Decimal::Missing => Field::Missing,
-    }
-}
-
-// V, C and the header's end.
-fn counts(text: &[u8], at: usize) -> Head
-    requires { at ≤ length text.now }
-    ensures left { head_of text.now result ≡ counts (drop at text.now) }
-    ensures high { InHead text.now result }
-{
-    let Field::Given(inputs, gap) = number_at(text, at, 1, Row::MAX_INPUTS) else {
-        return Head::Missing;
-    };
-    let Rest::At(next) = after_spaces(text, gap) else {
-        return Head::Missing;
-    };
-    let Field::Given(clauses, end) = number_at(text, next, 0, Sheet::MAX_CLAUSES as u32) else {
-        return Head::Missing;
-    };
-    let Rest::At(body) = header_end(text, end) else {
-        return Head::Missing;
-    };
-    Head::Found(Header {
-        inputs,
+    let text = after_comments(text)?;
+    let text = after_spaces(text.strip_prefix(b"p")?)?;
+    let text = after_spaces(text.strip_prefix(b"cnf")?)?;
+    let (digits, text) = split_front(text, |b| b.is_ascii_digit());
+    let count = decimal_within(digits, 1, Row::MAX_INPUTS)?;
+    let text = after_spaces(text)?;
+    let (digits, text) = split_front(text, |b| b.is_ascii_digit());
+    // Neither of u32 and usize is From the other; the casts are proved to lose nothing.
+    let clauses = decimal_within(digits, 0, Sheet::MAX_CLAUSES as u32)? as usize;
+    let text = header_end(text)?;
+    let inputs = Inputs { count };
+    Some(Header {
+        body: Body { inputs, text },
         clauses,
-        body,
     })
-}
-
-pub fn header_of(text: &[u8]) -> Head
-    ensures left { head_of text.now result ≡ header text.now }
-    ensures high { InHead text.now result }
-{
-    match opening(text) {
-        Rest::At(at) => counts(text, at),
-        Rest::Missing => Head::Missing,
-    }
 }

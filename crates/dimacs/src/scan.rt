@@ -1,101 +1,30 @@
-// Bytes of a kind. A position in the text is a number of bytes passed.
-ghost use Rattle.std.specs.Prelude.{◌≡◌, ◌≤◌, length, drop};
-ghost use Rattle.rules.specs.Dimacs.{is_digit, is_gap, is_blank, after_all, after_bytes, after_spaces};
-ghost use Rattle.dimacs.specs.Kinds.{of_kind};
-ghost use Rattle.dimacs.specs.Rests.{rest_of, InText};
+// Bytes at the front of a text, and what is left behind them.
+ghost use Rattle.std.specs.Prelude.{◌≡◌, ◌+◌, Bool, ℕ, length};
+ghost use Rattle.rules.specs.Dimacs.{is_blank, front, after_all, after_spaces};
+ghost use Rattle.dimacs.specs.Rests.{Tells, rest_of};
 
-// A mark is any byte but a blank.
-#[derive(Clone, Copy)]
-pub enum Kind {
-    Space,
-    Gap,
-    Blank,
-    Mark,
-    Digit,
-}
-
-pub fn is_digit(b: u8) -> bool
-    ensures { result ≡ is_digit b }
-{
-    (b'0' <= b) & (b <= b'9')
-}
-
-fn is_gap(b: u8) -> bool
-    ensures { result ≡ is_gap b }
-{
-    (b == b' ') | (b == b'\t')
-}
-
-fn is_blank(b: u8) -> bool
+pub fn is_blank(b: u8) -> bool
     ensures { result ≡ is_blank b }
 {
-    ((b == b' ') | (b == b'\t')) | ((b == b'\r') | (b == b'\n'))
+    matches!(b, b' ' | b'\t' | b'\r' | b'\n')
 }
 
-fn of_kind(kind: Kind, b: u8) -> bool
-    ensures { result ≡ of_kind kind b }
+// All bytes of a kind at the front of a text, and what is left behind them; the kind is the one that the test tells.
+pub fn split_front<F: Fn(u8) -> bool>(text: &[u8], is_kind: F) -> (&[u8], &[u8])
+    requires { F.IsAlwaysCallable is_kind }
+    ensures len { length result.0.now + length result.1.now ≡ length text.now }
+    ensures parts { (kind : ℕ → Bool) → Tells (F.post is_kind) kind
+        → (result.0.now ≡ front kind text.now) × (result.1.now ≡ after_all kind text.now) }
 {
-    match kind {
-        Kind::Space => b' ' == b,
-        Kind::Gap => is_gap(b),
-        Kind::Blank => is_blank(b),
-        Kind::Mark => !is_blank(b),
-        Kind::Digit => is_digit(b),
-    }
-}
-
-// The position behind all bytes of the kind.
-pub fn after_all(kind: Kind, text: &[u8], at: usize) -> usize
-    ensures left { drop result text.now ≡ after_all (of_kind kind) (drop at text.now) }
-    ensures low { at ≤ result }
-    ensures high { at ≤ length text.now → result ≤ length text.now }
-{
-    let mut i = at;
-    while i < text.len() {
-        if !of_kind(kind, text[i]) {
-            return i;
-        }
-        i += 1;
-    }
-    i
-}
-
-// Where the rest of a text begins, or that the text is not in form.
-#[derive(Clone, Copy)]
-pub enum Rest {
-    At(usize),
-    Missing,
-}
-
-// The rest behind these very bytes.
-pub fn after_bytes(word: &[u8], text: &[u8], at: usize) -> Rest
-    requires { at ≤ length text.now }
-    ensures left { rest_of text.now result ≡ after_bytes word.now (drop at text.now) }
-    ensures high { InText text.now result }
-{
-    let mut i = 0;
-    let mut k = at;
-    while i < word.len() {
-        if text.len() <= k {
-            return Rest::Missing;
-        }
-        if word[i] != text[k] {
-            return Rest::Missing;
-        }
-        i += 1;
-        k += 1;
-    }
-    Rest::At(k)
+    let n = text.iter().take_while(|b| is_kind(**b)).count();
+    text.split_at(n)
 }
 
 // The rest behind one or more spaces.
-pub fn after_spaces(text: &[u8], at: usize) -> Rest
-    requires { at ≤ length text.now }
-    ensures left { rest_of text.now result ≡ after_spaces (drop at text.now) }
-    ensures high { InText text.now result }
+#[tactic(auto, using(crate::proofs::Bytes::words))]
+pub fn after_spaces(text: &[u8]) -> Option<&[u8]>
+    ensures { rest_of result ≡ after_spaces text.now }
 {
-    match after_bytes(b" ", text, at) {
-        Rest::At(i) => Rest::At(after_all(Kind::Space, text, i)),
-        Rest::Missing => Rest::Missing,
-    }
+    let rest = text.strip_prefix(b" ")?;
+    Some(split_front(rest, |b| b == b' ').1)
 }

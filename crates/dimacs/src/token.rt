@@ -1,13 +1,13 @@
 // The tokens of a body, one at a step.
-ghost use Rattle.std.specs.Prelude.{◌≡◌, ◌-◌, ◌≤◌, pos, negsuc};
+ghost use Rattle.std.specs.Prelude.{◌≡◌, ◌<◌, length, IfSome};
 ghost use Rattle.rules.specs.Dimacs.{token_of, step};
-ghost use Rattle.dimacs.specs.Parts.{token_is, step_is};
+ghost use Rattle.dimacs.specs.Parts.{token_is, InReach, step_is, first_is, first_token};
 
-use crate::decimal::{Decimal, begins_longer, decimal_within, is_byte};
-use crate::scan::{Kind, after_all};
+use crate::decimal::decimal_within;
+use crate::scan::{is_blank, split_front};
 
 // A number in form, closing zeros with them; `%`, which ends the text; or anything else. 64 bits hold -v..v for every v.
-#[derive(Clone, Copy)]
+#[derive(Clone, Copy, PartialEq, Eq)]
 pub enum Token {
     Number(i64),
     Percent,
@@ -15,53 +15,44 @@ pub enum Token {
 }
 
 // A token and the position behind it, or that none is left.
-#[derive(Clone, Copy)]
-pub enum Step {
-    Token(Token, usize),
-    NoneLeft,
-}
-
-// m and -m as signed numbers.
-fn signed(m: u32) -> i64
-    ensures { result ≡ pos m }
-{
-    m as i64
-}
-
-fn negated(m: u32) -> i64
-    requires { 1 ≤ m }
-    ensures { result ≡ negsuc (m - 1) }
-{
-    0 - (m as i64)
-}
+pub type Step = Option<(Token, usize)>;
 
 // The token that a part is.
+#[tactic(auto, using(crate::proofs::TokenKinds::plain))]
 fn token_of(v: u32, part: &[u8]) -> Token
-    ensures { token_is result ≡ token_of v part.now }
+    ensures kind { token_is result ≡ token_of v part.now }
+    ensures reach { InReach v result }
 {
-    if is_byte(part, b'%') {
+    if let [b'%'] = part {
         return Token::Percent;
     }
-    if begins_longer(part, b'-') {
-        return match decimal_within(&part[1..], 1, v) {
-            Decimal::Number(m) => Token::Number(negated(m)),
-            Decimal::Missing => Token::Other,
-        };
+    if let Some(digits) = part.strip_prefix(b"-") {
+        return decimal_within(digits, 1, v).map_or(Token::Other, |m| Token::Number(-i64::from(m)));
     }
-    match decimal_within(part, 0, v) {
-        Decimal::Number(m) => Token::Number(signed(m)),
-        Decimal::Missing => Token::Other,
+    decimal_within(part, 0, v).map_or(Token::Other, |m| Token::Number(i64::from(m)))
+}
+
+// The first token of a text over the inputs 1..v, and what is left behind it; or that none is left.
+#[tactic(auto, using(crate::proofs::Steps::firsts))]
+pub fn first_token(v: u32, text: &[u8]) -> Option<(Token, &[u8])>
+    ensures token { first_is result ≡ first_token v text.now }
+    ensures reach { IfSome result (λ (t, rest). InReach v t) }
+    ensures shorter { IfSome result (λ (t, rest). length rest.now < length text.now) }
+{
+    let (_, rest) = split_front(text, is_blank);
+    let (word, rest) = split_front(rest, |b| !is_blank(b));
+    if word.is_empty() {
+        return None;
     }
+    Some((token_of(v, word), rest))
 }
 
 // The next token from a position on, over the inputs 1..v.
+#[tactic(auto, using(crate::proofs::Steps::steps))]
 pub fn next_token(v: u32, text: &[u8], at: usize) -> Step
-    ensures { step_is result ≡ step v text.now at }
+    ensures step { step_is result ≡ step v text.now at }
+    ensures reach { IfSome result (λ (t, place). InReach v t) }
 {
-    let from = after_all(Kind::Blank, text, at);
-    if text.len() <= from {
-        return Step::NoneLeft;
-    }
-    let to = after_all(Kind::Mark, text, from);
-    Step::Token(token_of(v, &text[from..to]), to)
+    let (token, rest) = first_token(v, text.get(at..)?)?;
+    Some((token, text.len() - rest.len()))
 }

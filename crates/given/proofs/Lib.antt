@@ -1,2 +1,3 @@
--- When a given list is in form.
+-- The rows of two runs, and when a given list is in form.
+pub mod Runs
 pub mod InForm

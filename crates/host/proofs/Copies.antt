@@ -1,98 +1,24 @@
--- The rows that are no blanks, copied one after another into bytes.
-use mathlib.Core.Path.{◌≡◌, refl, sym, ap, ◌∙◌, subst}
-use mathlib.Core.Bool.{true, false}
-use mathlib.Core.List.{List, [], ◌∷◌, ◌++◌, map, map-append}
-use Prim.Native.Nat.{ℕ, ◌+◌, ◌*◌, ◌/◌, ◌≤◌, ◌<◌}
-use native.Mathlib.Omega.{arith}
-use lib.ListN.{length, get_or, length-map}
-use Rattle.rules.specs.declared.Row.{Row}
-use Rattle.rules.specs.Answers.{over}
-use Rattle.rules.specs.Calls.{bytes_of, cares, values}
-use Rattle.sheets.specs.Barred.{rows_of}
-use Rattle.sheets.proofs.Pairs.{over-length}
-use Rattle.method.specs.Blank.{is_blank, solid}
-use Rattle.method.proofs.Taking.{Taking, none-taken, taken-within, blank-passed, row-taken, all-taken}
-use Rattle.pla.specs.Put.{put}
-use Rattle.host.proofs.Bytes.{bytes-length, over_word}
+-- Words copied out of bytes, and an order among them.
+use Rattle.std.proofs.Common.{◌≡◌, ◌≢◌, ◌∙◌, sym, ap, ℕ, ◌+◌, ◌*◌, ◌%◌, ◌/◌, ◌≤◌, ◌<◌, true, false, ◌&&◌, List, length, get_or, take, set, min, arith}
+use Rattle.std.proofs.lemmas.List.{length-take, take_all, take_min, take_more, take_more_set}
+use borrow.Author.Tests.{eq-eqb, eqb-true}
+use Rattle.rules.specs.Words.{is_order}
+use Rattle.rules.specs.Calls.{words_of, none_left_over}
+use Rattle.rules.proofs.Logic.{test}
+use Rattle.sheets.proofs.Bytes.{words-length}
+use Rattle.sheets.proofs.Orders.{missized}
 
--- Copied so far: the rows taken.
-pub record Copying (rows care₀ value₀ care value : List ℕ) (count i : ℕ) : Type 0 where
-  pub copied : List Row
-  pub taking : Taking rows copied count i
-  pub care-is : care ≡ over (bytes_of (cares copied)) care₀
-  pub value-is : value ≡ over (bytes_of (values copied)) value₀
+-- one word more is copied, and all of them are
+pub ruleset copies = (words-length, length-take, take_min, take_more, take_more_set, take_all)
 
--- One word more of the rows copied.
-word_copied : (word : Row → ℕ) (r : Row) (copied : List Row) (old new : List ℕ) (count : ℕ) → new ≡ over (bytes_of (map word copied)) old → count ≡ length copied
-    → 4 * count + 4 ≤ length old → put (4 * count) (bytes_of (word r ∷ [])) new ≡ over (bytes_of (map word (copied ++ (r ∷ [])))) old
-word_copied word r copied old new count e n l =
-    let m : count ≡ length (map word copied) = n ∙ sym (length-map copied word) in
-    ap (put (4 * count) (bytes_of (word r ∷ []))) e
-    ∙ ap (λ (k : ℕ). put (4 * k) (bytes_of (word r ∷ [])) (over (bytes_of (map word copied)) old)) m
-    ∙ over_word (map word copied) (word r) old (subst (λ (k : ℕ). 4 * k + 4 ≤ length old) m l)
-    ∙ ap (λ (x : List ℕ). over (bytes_of x) old) (sym (map-append word copied (r ∷ [])))
+-- an order has four bytes for each input
+pub other_length : (n : ℕ) (bs : List ℕ) → length bs ≢ 4 * n → (none_left_over bs && is_order n (words_of bs)) ≡ false
+other_length n bs h = test (none_left_over bs) (λ t. rw t (sym (missized n (words_of bs) (λ e. h (omega (arith, eqb-true (length bs % 4) 0 t, words-length bs)))))) (λ f. rw f)
 
-module _ (rows care₀ value₀ : List ℕ) (room-care : length (solid (rows_of rows)) ≤ length care₀ / 4) (room-value : length (solid (rows_of rows)) ≤ length value₀ / 4) where
-  pub begin : Copying rows care₀ value₀ care₀ value₀ 0 0
-  unfolding bytes_of
-  begin = record { copied = []; taking = none-taken rows; care-is = refl; value-is = refl }
+pub none-left : (bs : List ℕ) → length bs % 4 ≡ 0 → none_left_over bs ≡ true
+none-left bs h = eq-eqb (length bs % 4) 0 h
 
-  module _ (care value : List ℕ) (count i : ℕ) (p : Copying rows care₀ value₀ care value count i) where
-    same-as : (word : Row → ℕ) (old new : List ℕ) → length (solid (rows_of rows)) ≤ length old / 4 → new ≡ over (bytes_of (map word p.copied)) old → length new ≡ length old
-    same-as word old new room e =
-        let s = length-map p.copied word in
-        let b = bytes-length (map word p.copied) in
-        let q = p.taking.size in
-        let w = taken-within rows p.copied count i p.taking in
-        ap length e ∙ over-length (bytes_of (map word p.copied)) old (omega arith)
+pub all-words : (room : ℕ) (bs : List ℕ) → length bs / 4 ≤ room → take room (words_of bs) ≡ words_of bs
+all-words room bs l = take_all room (words_of bs) (omega (arith, words-length bs))
 
-    pub same-care : length care ≡ length care₀
-    same-care = same-as (λ r. r.care) care₀ care room-care p.care-is
-
-    pub same-value : length value ≡ length value₀
-    same-value = same-as (λ r. r.value) value₀ value room-value p.value-is
-
-    module _ (r : Row) (more : i < length rows / 2) (c : r.care ≡ get_or rows (2 * i) 0) (v : r.value ≡ get_or rows (2 * i + 1) 0) where
-      pub passed : is_blank r ≡ true → (care₁ value₁ : List ℕ) (count₁ : ℕ) → care₁ ≡ care → value₁ ≡ value → count₁ ≡ count
-          → Copying rows care₀ value₀ care₁ value₁ count₁ (i + 1)
-      passed b care₁ value₁ count₁ e f g = record {
-        copied = p.copied;
-        taking = subst (λ (k : ℕ). Taking rows p.copied k (i + 1)) (sym g) (blank-passed rows p.copied count i p.taking r more c v b);
-        care-is = e ∙ p.care-is;
-        value-is = f ∙ p.value-is;
-      }
-
-      module _ (s : is_blank r ≡ false) where
-        one_more : Taking rows (p.copied ++ (r ∷ [])) (count + 1) (i + 1)
-        one_more = row-taken rows p.copied count i p.taking r more c v s
-
-        pub has_room : (4 * count + 4 ≤ length care) × (4 * count + 4 ≤ length value)
-        has_room =
-            let w = taken-within rows (p.copied ++ (r ∷ [])) (count + 1) (i + 1) one_more in
-            let a = same-care in
-            let b = same-value in
-            (omega arith, omega arith)
-
-        pub copies : (care₁ value₁ : List ℕ) (count₁ : ℕ) → care₁ ≡ put (4 * count) (bytes_of (r.care ∷ [])) care
-            → value₁ ≡ put (4 * count) (bytes_of (r.value ∷ [])) value → count₁ ≡ count + 1
-            → Copying rows care₀ value₀ care₁ value₁ count₁ (i + 1)
-        copies care₁ value₁ count₁ e f g = record {
-          copied = p.copied ++ (r ∷ []);
-          taking = subst (λ (k : ℕ). Taking rows (p.copied ++ (r ∷ [])) k (i + 1)) (sym g) one_more;
-          care-is =
-              e
-              ∙ word_copied (λ r. r.care) r p.copied care₀ care count p.care-is p.taking.size
-              (subst (λ (l : ℕ). 4 * count + 4 ≤ l) same-care has_room.0);
-          value-is =
-              f
-              ∙ word_copied (λ r. r.value) r p.copied value₀ value count p.value-is p.taking.size
-              (subst (λ (l : ℕ). 4 * count + 4 ≤ l) same-value has_room.1);
-        }
-
-    pub finished : length rows / 2 ≤ i
-        → (care ≡ over (bytes_of (cares (solid (rows_of rows)))) care₀) × ((value ≡ over (bytes_of (values (solid (rows_of rows)))) value₀) × (count ≡ length (solid (rows_of rows))))
-    finished h =
-        let e = all-taken rows p.copied count i p.taking h in (
-          p.care-is ∙ ap (λ (x : List Row). over (bytes_of (cares x)) care₀) e,
-          (p.value-is ∙ ap (λ (x : List Row). over (bytes_of (values x)) value₀) e, p.taking.size ∙ ap length e),
-        )
+pub ruleset orders = (other_length, none-left, all-words)

@@ -1,34 +1,41 @@
--- The writer looks at no row past the count.
-use mathlib.Core.Path.{◌≡◌, refl, sym, ap, ◌∙◌}
-use mathlib.Core.List.{List, [], ◌∷◌}
-use Prim.Native.Nat.{ℕ, zero, suc, ◌≤◌}
-use native.Mathlib.Omega.{arith}
-use lib.Dec.{leb}
-use lib.ListN.{length, take}
-use lib.Seq.{take-take, length-take-le}
-use borrow.Author.Tests.{le-leb}
+-- A list that is to be written is looked at no further than the rows that a list may have.
+use Rattle.std.proofs.Common.{◌≡◌, ◌∙◌, refl, ap, ℕ, zero, suc, ◌≤◌, List, [], ◌∷◌, length, take, leb, arith}
+use Rattle.std.proofs.lemmas.List.{length-take}
+use Rattle.std.proofs.lemmas.Bool.Decides.{nat_tests}
+use lib.Seq.{take-take}
+use mathlib.Core.Bool.{and-false}
+use borrow.Author.Tests.{leb-true}
 use Rattle.rules.specs.declared.Row.{Row}
+use Rattle.rules.specs.Method.{max_rows}
+use Rattle.rules.specs.Answers.{Verdict, judge}
 use Rattle.rules.specs.Calls.{rows_in, write}
-use Rattle.rules.proofs.GivenRows.{count-within}
+use Rattle.rules.proofs.Logic.{test}
 
 -- the rows in the first words of two runs are the first rows
-pub rows-first : (k : ℕ) (cs vs : List ℕ) → rows_in (take k cs) (take k vs) ≡ take k (rows_in cs vs)
+rows-first : (k : ℕ) (cs vs : List ℕ) → rows_in (take k cs) (take k vs) ≡ take k (rows_in cs vs)
 unfolding rows_in
 rows-first zero cs vs = refl
 rows-first (suc k) [] vs = refl
 rows-first (suc k) (c ∷ cs) [] = refl
 rows-first (suc k) (c ∷ cs) (v ∷ vs) = ap (λ l. record { care = c; value = v } ∷ l) (rows-first k cs vs)
 
--- so a list that has as many rows as the count is written as its first rows are
-pub write-first : (n count : ℕ) (rows : List Row) (room : ℕ) → count ≤ length rows → write n count (take count rows) room ≡ write n count rows room
-unfolding write
-write-first n count rows room l =
-    let there : leb count (length (take count rows)) ≡ leb count (length rows) =
-    le-leb count (length (take count rows)) (omega (arith, length-take-le count rows l)) ∙ sym (le-leb count (length rows) l) in
-    rw (there, take-take count count rows (omega arith))
+-- the first rows are as many, and the same, for any count that is no more
+first-there : (count k : ℕ) (rows : List Row) → count ≤ k → leb count (length (take k rows)) ≡ leb count (length rows)
+first-there count k rows l = grind (arith, nat_tests, length-take)
 
--- and so are its rows in copies of the first words
-pub write-copied : (n count : ℕ) (cs vs cs' vs' : List ℕ) (room : ℕ) → count ≤ length cs → count ≤ length vs → take count cs' ≡ take count cs → take count vs' ≡ take count vs
-    → write n count (rows_in (take count cs') (take count vs')) room ≡ write n count (rows_in cs vs) room
-write-copied n count cs vs cs' vs' room a b e f =
-    ap (λ rows. write n count rows room) (rw (e, f) (rows-first count cs vs)) ∙ write-first n count (rows_in cs vs) room (count-within cs vs count a b)
+write-first : (n count k room : ℕ) (rows : List Row) → max_rows ≤ k → write n count (take k rows) room ≡ write n count rows room
+unfolding write judge
+write-first n count k room rows m =
+    test (leb count max_rows)
+    (λ t. let l : count ≤ k = (let h = leb-true count max_rows t in omega arith) in rw (first-there count k rows l, take-take count k rows l))
+    (λ f. rw (f, and-false (leb count (length (take k rows))), and-false (leb count (length rows))))
+
+pub write-copied : (n count k room : ℕ) (cs vs : List ℕ) → max_rows ≤ k → write n count (rows_in (take k cs) (take k vs)) room ≡ write n count (rows_in cs vs) room
+write-copied n count k room cs vs m = rw rows-first (write-first n count k room (rows_in cs vs) m)
+
+-- what is said of the text of copied runs is said of the runs themselves
+pub copied : {A : Type 0} (f : Verdict (List ℕ) → A) (n count room : ℕ) (care value cs vs : List ℕ)
+    → care ≡ take 256 cs → value ≡ take 256 vs → f (write n count (rows_in care value) room) ≡ f (write n count (rows_in cs vs) room)
+copied f n count room care value cs vs p q =
+    ap (λ rows. f (write n count rows room)) (ap (λ r. rows_in r value) p ∙ ap (λ r. rows_in (take 256 cs) r) q)
+    ∙ ap f (write-copied n count 256 room cs vs (omega arith))

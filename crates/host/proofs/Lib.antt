@@ -1,9 +1,5 @@
--- Of a given list only its first rows count; words in bytes, one after another; orders in bytes; rows copied into bytes;
--- list building on sheets in place.
+-- Of a given list only its first rows count; words copied out of bytes and written into them; list building from bytes in form.
 pub mod FirstRows
-pub mod Bytes
-pub mod Orders
 pub mod Copies
-pub mod Replies
-pub mod InPlace
+pub mod Bytes
 pub mod InForm

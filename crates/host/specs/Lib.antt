@@ -1,2 +1,2 @@
--- What list building gives where its input is in form.
-pub mod Formed
+-- What holds of words that are written in bytes.
+pub mod Bytes

@@ -1,54 +1,36 @@
 // Words in lent bytes: four bytes each, lowest first.
-ghost use Rattle.std.specs.Prelude.{◌≡◌, true, ◌&&◌, [], ◌∷◌, ◌+◌, ◌*◌, ◌/◌, ◌%◌, ◌≤◌, length, take};
+ghost use Rattle.std.specs.Prelude.{◌≡◌, ◌&&◌, ◌≤◌, IfErr, IfOk, is_ok, length, take};
 ghost use Rattle.rules.specs.Words.{max_inputs, is_order};
-ghost use Rattle.rules.specs.Answers.{over};
-ghost use Rattle.rules.specs.Calls.{words_of, none_left_over, bytes_of};
-ghost use Rattle.pla.specs.Put.{put};
+ghost use Rattle.rules.specs.Calls.{words_of, none_left_over};
 
+use rules::{Inputs, Refusal};
 use sheets::{is_order, word_at};
 
-// Copies the first `count` words of the bytes over the first of the words.
-pub fn copy_words(bytes: &[u8], count: usize, words: &mut [u32])
-    requires { (count ≤ length bytes.now / 4) × (count ≤ length words.old) }
-    ensures { words.new ≡ over (take count (words_of bytes.now)) words.old }
+// Copies the words of the bytes, as many as there is room for, and gives the copies.
+#[tactic(auto, using(crate::proofs::Copies::copies))]
+pub fn copy_words<'a>(bytes: &[u8], room: &'a mut [u32]) -> &'a [u32]
+    ensures { result.now ≡ take (length room.old) (words_of bytes.now) }
 {
-    let mut k = 0;
-    while k < count {
-        words[k] = word_at(bytes, k);
-        k += 1;
+    let count = room.len().min(bytes.len() / 4);
+    let words = &mut room[..count];
+    // By the index of the bytes' words: nothing is known of the cells that are written by a `zip` over `iter_mut`.
+    for (k, word) in words.iter_mut().enumerate() {
+        *word = word_at(bytes, k);
     }
+    words
 }
 
-// Whether the bytes are an order of n inputs, with none left over. If they are, its words stand at the start of `words`.
-pub fn order_words(n: u32, order: &[u8], words: &mut [u32]) -> bool
-    requires n_le_max_inputs { n ≤ max_inputs }
-    requires max_inputs_in_bounds { max_inputs ≤ length words.old }
-    ensures value { result ≡ (none_left_over order.now && is_order n (words_of order.now)) }
-    ensures words_after { result ≡ true → take n words.new ≡ words_of order.now }
+// Copies the words of an order of n inputs, with no bytes left over, and gives them; or refusal 2.
+#[tactic(auto, using(crate::proofs::Copies::orders))]
+pub fn order_words<'a>(n: Inputs, order: &[u8], room: &'a mut [u32]) -> Result<&'a [u32], Refusal>
+    requires { max_inputs ≤ length room.old }
+    ensures words { IfOk result (λ words. words.now ≡ words_of order.now) }
+    ensures refused { IfErr result (λ f. f ≡ Refusal.Order) }
+    ensures when { is_ok result ≡ (none_left_over order.now && is_order n.count (words_of order.now)) }
 {
-    let count = n as usize;
-    if order.len() != 4 * count {
-        return false;
+    let words = copy_words(order, room);
+    if order.len() != 4 * n.count as usize || !is_order(n.count, words) {
+        return Err(Refusal::Order);
     }
-    copy_words(order, count, words);
-    is_order(n, &words[..count])
-}
-
-// The lowest byte of a word.
-fn low(w: u32) -> u8
-    ensures { result ≡ w % 256 }
-{
-    (w % 256) as u8
-}
-
-// Writes the word as the k-th four bytes.
-pub fn put_word(w: u32, bytes: &mut [u8], k: usize)
-    requires { 4 * k + 4 ≤ length bytes.old }
-    ensures { bytes.new ≡ put (4 * k) (bytes_of (w ∷ [])) bytes.old }
-{
-    let at = 4 * k;
-    bytes[at] = low(w);
-    bytes[at + 1] = low(w / 256);
-    bytes[at + 2] = low(w / 65536);
-    bytes[at + 3] = low(w / 16777216);
+    Ok(words)
 }

@@ -1,3 +1,3 @@
--- Which input of the list calls is in form, and how its barred rows are kept.
+-- Which input of the list calls is in form, and what is lent for it.
 pub mod Formed
-pub mod Laid
+pub mod Lends

@@ -1,33 +1,25 @@
 // The refusals that look at the input's form, in the order of their numbers, for both list calls.
-ghost use Rattle.std.specs.Prelude.{◌≡◌};
-ghost use Rattle.lists.specs.Formed.{form_of};
+ghost use Rattle.std.specs.Prelude.{◌≡◌, IfOk};
+ghost use Rattle.lists.specs.Formed.{InForm, form_of, formed_as};
 
-use rules::{Refusal, Row};
+use rules::{Inputs, Refusal};
 use sheets::{is_order, well_formed};
 
-#[derive(Clone, Copy)]
-pub enum Form {
-    Good,
-    Refused(Refusal),
-}
-
-pub fn form_of(n: u32, order: &[u32], on: &[i32], off: &[i32]) -> Form
-    ensures { result ≡ form_of n order.now on.now off.now }
+// The number of inputs, or the refusal.
+#[tactic(auto, unfolding(crate::specs::Formed::form_of, rules::specs::Answers::judge))]
+pub fn form_of(n: u32, order: &[u32], on: &[i32], off: &[i32]) -> Result<Inputs, Refusal>
+    ensures verdict { formed_as result ≡ form_of n order.now on.now off.now }
+    ensures in_form { IfOk result (λ inputs. InForm inputs.count order.now on.now off.now) }
 {
-    if n < 1 {
-        return Form::Refused(Refusal::Inputs);
-    }
-    if Row::MAX_INPUTS < n {
-        return Form::Refused(Refusal::Inputs);
-    }
+    let inputs = Inputs::of(n)?;
     if !is_order(n, order) {
-        return Form::Refused(Refusal::Order);
+        return Err(Refusal::Order);
     }
     if !well_formed(n, on) {
-        return Form::Refused(Refusal::OnSheet);
+        return Err(Refusal::OnSheet);
     }
     if !well_formed(n, off) {
-        return Form::Refused(Refusal::OffSheet);
+        return Err(Refusal::OffSheet);
     }
-    Form::Good
+    Ok(inputs)
 }

@@ -15,7 +15,8 @@ use Rattle.rules.specs.declared.Row.{Row}
 use Rattle.rules.specs.Words.{holds, is_row, fits, in_some}
 use Rattle.rules.specs.Method.{needed, marks_after, marks, picked}
 use Rattle.rules.specs.Calls.{kept}
-use Rattle.rules.proofs.Logic.{clash, and_both, fails}
+use Rattle.rules.proofs.Logic.{clash}
+use Rattle.std.proofs.lemmas.Bool.{and_parts, false_from_ne_true}
 use Rattle.rules.proofs.Generation.{All}
 use Rattle.method.specs.Blank.{blank, is_blank, blanked, solid}
 
@@ -61,8 +62,8 @@ blanked-length (x ∷ m) (r ∷ rows) = ap suc (blanked-length m rows)
 -- The rows left are those picked.
 pub row-solid : (n : ℕ) (r : Row) → is_row n r ≡ true → is_blank r ≡ false
 row-solid n r w =
-    let b = and_both (fits n r.care) (holds r r.value) w in
-    fails (λ h. let e = and_both (eqb r.care 0) (eqb r.value 1) h in
+    let b = and_parts (fits n r.care) (holds r r.value) w in
+    false_from_ne_true _ (λ h. let e = and_parts (eqb r.care 0) (eqb r.value 1) h in
     let c = eqb-true r.care 0 e.0 in
     let v = eqb-true r.value 1 e.1 in
     clash b.1 (ne_eqb _ r.value (λ q. let z : 0 ≡ 1 = sym (and_zero_r r.value) ∙ ap (λ (k : ℕ). lib.Bits.bit_and r.value k) (sym c) ∙ q ∙ v in omega arith)))

@@ -10,7 +10,8 @@ use Rattle.rules.specs.Words.{is_one, before, smaller, dashes, in_some}
 use Rattle.rules.specs.Sheets.{satisfies}
 use Rattle.rules.specs.Search.{smallest, not_below}
 use Rattle.rules.specs.Method.{next}
-use Rattle.rules.proofs.Logic.{test, and_both, and-join, or-none, not_yes, yes-not}
+use Rattle.rules.proofs.Logic.{test}
+use Rattle.std.proofs.lemmas.Bool.{and_parts, and_from, or_parts, not-true, not_from_false}
 use Rattle.rules.proofs.Bits.{bit-zero}
 use Rattle.rules.proofs.Rows.{dashes-row, in_some-append}
 use Rattle.rules.proofs.Orders.{IsOrder}
@@ -55,9 +56,9 @@ module _ (n : ℕ) (order : List ℕ) (o : IsOrder n order) (on : ℕ → Bool) 
   unfolding Resumes next
   resumes-next rows r s e =
       resume n order o (unheld on rows) (unheld on (rows ++ (r ∷ []))) s
-      (λ t h. let a = and_both (on t) (not (in_some (rows ++ (r ∷ [])) t)) h in
-      let b = or-none (in_some rows t) (in_some (r ∷ []) t) (sym (in_some-append rows (r ∷ []) t) ∙ not_yes (in_some (rows ++ (r ∷ [])) t) a.1) in
-      and-join a.0 (yes-not b.0))
+      (λ t h. let a = and_parts (on t) (not (in_some (rows ++ (r ∷ [])) t)) h in
+      let b = or_parts (in_some rows t) (in_some (r ∷ []) t) (sym (in_some-append rows (r ∷ []) t) ∙ not-true (in_some (rows ++ (r ∷ [])) t) a.1) in
+      and_from _ _ a.0 (not_from_false _ b.0))
       e
 
 -- The search's answer, as the method asks for it.

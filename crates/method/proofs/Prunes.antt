@@ -1,30 +1,26 @@
 -- One row judged after another, first to last.
 use mathlib.Core.Path.{◌≡◌, refl, sym, ap, ap₂, ◌∙◌, fun_ext}
 use mathlib.Core.Bool.{Bool, true, false, not, cond, ◌&&◌}
-use mathlib.Core.List.{List, [], ◌∷◌, ◌++◌, append_assoc}
-use Prim.Native.Nat.{ℕ, ◌+◌, ◌*◌, ◌≤◌, ◌<◌}
-use native.Mathlib.Nat.{zero-add, suc-add}
+use mathlib.Core.List.{List, [], ◌∷◌, ◌++◌}
+use Prim.Native.Nat.{ℕ, ◌+◌, ◌≤◌, ◌<◌}
+use native.Mathlib.Nat.{zero-add, add-zero, suc-add}
 use native.Mathlib.Omega.{arith}
 use lib.IntN.{ℤ}
-use lib.ListN.{length, get_or, take, drop, set, take-append-drop, length-append, length-drop}
-use lib.Seq.{length-take-le, get_or-append-add}
+use lib.ListN.{length, get_or, take, drop, set, length-append, length-drop}
+use lib.Seq.{take-add, length-take-le, get_or-append-add}
 use Rattle.rules.specs.declared.Row.{Row}
 use Rattle.rules.specs.Words.{fits, one, in_some}
 use Rattle.rules.specs.Search.{holds_some}
-use Rattle.rules.specs.Method.{needed}
+use Rattle.rules.specs.Method.{needed, marks}
 use Rattle.rules.specs.Answers.{over}
 use Rattle.rules.specs.Calls.{kept}
-use Rattle.rules.proofs.Logic.{and_both, and-join}
-use Rattle.sheets.specs.Barred.{pairs_of}
-use Rattle.sheets.specs.Numbers.{numbers_of}
-use Rattle.sheets.proofs.Pairs.{pairs-length, pairs-append, over-length}
+use Rattle.std.proofs.lemmas.Bool.{and_parts, and_from}
 use Rattle.search.specs.Question.{good, cares_within, Asked}
 use Rattle.method.specs.Blank.{blank, blanked, judged_at}
-use Rattle.method.specs.Lent.{asks, first_rows, stays, behind, staying}
+use Rattle.method.specs.Lent.{stays, behind}
 use Rattle.method.proofs.Blanks.{Judged, others, others-hold, judged-none, judged-more, judged-all, blanked-more, blanked-rest, blanked-length}
 use Rattle.method.proofs.Next.{good-append}
-use Rattle.method.proofs.Kept.{first_rows_lem}
-use Rattle.method.proofs.Judges.{blank-fits, over-rows, over-again, rows_split}
+use Rattle.method.proofs.Judges.{blank-fits}
 
 -- Rows blanked care for no other variable than before.
 blanked-within : (n : ℕ) (first : List Row) (m : List Bool) (rows : List Row) → cares_within n (first ++ rows) ≡ true → cares_within n (first ++ blanked m rows) ≡ true
@@ -32,13 +28,13 @@ unfolding cares_within blanked
 blanked-within n [] [] rows h = h
 blanked-within n [] (b ∷ m) [] h = h
 blanked-within n [] (true ∷ m) (r ∷ rows) h =
-    let b = and_both (fits n r.care) (cares_within n rows) h in
-    and-join b.0 (blanked-within n [] m rows b.1)
+    let b = and_parts (fits n r.care) (cares_within n rows) h in
+    and_from _ _ b.0 (blanked-within n [] m rows b.1)
 blanked-within n [] (false ∷ m) (r ∷ rows) h =
-    and-join (blank-fits n) (blanked-within n [] m rows (and_both (fits n r.care) (cares_within n rows) h).1)
+    and_from _ _ (blank-fits n) (blanked-within n [] m rows (and_parts (fits n r.care) (cares_within n rows) h).1)
 blanked-within n (r ∷ first) m rows h =
-    let b = and_both (fits n r.care) (cares_within n (first ++ rows)) h in
-    and-join b.0 (blanked-within n first m rows b.1)
+    let b = and_parts (fits n r.care) (cares_within n (first ++ rows)) h in
+    and_from _ _ b.0 (blanked-within n first m rows b.1)
 
 -- A row behind others is the one judged.
 set-behind : (xs ys : List Row) (i : ℕ) (a : Row) → set (xs ++ ys) (length xs + i) a ≡ xs ++ set ys i a
@@ -84,119 +80,69 @@ kept-within [] = omega arith
 kept-within (true ∷ m) = let h = kept-within m in omega arith
 kept-within (false ∷ m) = let h = kept-within m in omega arith
 
--- The first rows of a run, and the rows behind them.
-module _ (old : List ℕ) (ons count : ℕ) (room : 2 * (ons + count) ≤ length old) where
-  pub before_split : first_rows ons old ++ behind ons count old ≡ first_rows (ons + count) old
-  before_split =
-      let rows : List Row = first_rows (ons + count) old in
-      let rest : List ℕ = drop (2 * (ons + count)) old in
-      let split = rows_split (ons + count) old room in
-      let words : old ≡ pairs_of (take ons rows) ++ (pairs_of (drop ons rows) ++ rest) =
-      sym split.0
-      ∙ ap (λ (x : List Row). pairs_of x ++ rest) (sym (take-append-drop ons rows))
-      ∙ ap (λ (x : List ℕ). x ++ rest) (pairs-append (take ons rows) (drop ons rows))
-      ∙ append_assoc (pairs_of (take ons rows)) (pairs_of (drop ons rows)) rest in
-      let front : length (take ons rows) ≡ ons = length-take-le ons rows (let e = split.1 in omega arith) in
-      ap (λ (x : List Row). x ++ drop ons rows) (ap (first_rows ons) words ∙ first_rows_lem (take ons rows) (pairs_of (drop ons rows) ++ rest) ons front)
-      ∙ take-append-drop ons rows
-
-  pub first-size : length (first_rows ons old) ≡ ons
-  first-size = (rows_split ons old (omega arith)).1
-
-  pub behind-size : length (behind ons count old) ≡ count
-  behind-size =
-      let e = (rows_split (ons + count) old room).1 in
-      length-drop ons (first_rows (ons + count) old) ∙ (rw e (omega arith))
-
--- Pruning so far: the marks of the first i rows, and the run with the rows blanked that go.
-pub record Pruning (order counting old : List ℕ) (ons count : ℕ) (words : List ℕ) (stay i : ℕ) : Type 0 where
+-- Pruning so far: the marks of the rows judged behind the first ones, and the rows as they stand, those blanked that go.
+pub record Pruning (order : List ℕ) (a : List ℤ) (first rows now : List Row) (stay at : ℕ) : Type 0 where
   pub marked : List Bool
-  pub size : length marked ≡ i
-  pub within : i ≤ count
-  pub blanks : words ≡ over (pairs_of (first_rows ons old ++ blanked marked (behind ons count old))) old
+  pub size : length first + length marked ≡ at
+  pub blanks : now ≡ first ++ blanked marked rows
   pub count-is : stay ≡ kept marked
-  pub judged : Judged (asks counting (first_rows ons old)) order (behind ons count old) marked
+  pub judged : Judged (good a [] first) order rows marked
 
-module _ (order counting old : List ℕ) (ons count : ℕ) (room : 2 * (ons + count) ≤ length old) where
-  -- The first rows, and the rows behind them blanked by marks.
-  abbrev now : List Bool → List Row
-  now m = first_rows ons old ++ blanked m (behind ons count old)
-
-  now-count : (m : List Bool) → length (now m) ≡ ons + count
-  now-count m =
-      length-append (first_rows ons old) (blanked m (behind ons count old))
-      ∙ ap₂ (λ (a b : ℕ). a + b) (first-size old ons count room) (blanked-length m (behind ons count old) ∙ (behind-size old ons count room))
-
-  pub begin : Pruning order counting old ons count old 0 0
+module _ (order : List ℕ) (a : List ℤ) (first rows : List Row) where
+  pub begin : (now : List Row) (at : ℕ) → now ≡ first ++ rows → length first ≡ at → Pruning order a first rows now 0 at
   unfolding kept blanked
-  begin = record {
-    marked = [];
-    size = refl;
-    within = omega arith;
-    blanks = sym (ap (λ (x : List Row). over (pairs_of x) old) (before_split old ons count room)
-        ∙ over-rows (first_rows (ons + count) old) (ons + count) old (rows_split (ons + count) old room).1
-        ∙ (rows_split (ons + count) old room).0);
-    count-is = refl;
-    judged = judged-none (asks counting (first_rows ons old)) order (behind ons count old);
-  }
+  begin now at e f = record { marked = []; size = add-zero (length first) ∙ f; blanks = e; count-is = refl; judged = judged-none (good a [] first) order rows }
 
-  module _ (words : List ℕ) (stay i : ℕ) (p : Pruning order counting old ons count words stay i) where
-    now-rows : first_rows (ons + count) words ≡ first_rows ons old ++ blanked p.marked (behind ons count old)
-    now-rows =
-        ap (first_rows (ons + count)) (p.blanks ∙ over-rows (now p.marked) (ons + count) old (now-count p.marked))
-        ∙ first_rows_lem (now p.marked) (drop (2 * (ons + count)) old) (ons + count) (now-count p.marked)
+  module _ (now : List Row) (stay at : ℕ) (p : Pruning order a first rows now stay at) where
+    now-length : length now ≡ length first + length rows
+    now-length =
+        ap length p.blanks ∙ length-append first (blanked p.marked rows) ∙ ap (λ (k : ℕ). length first + k) (blanked-length p.marked rows)
 
-    pub now-size : length words ≡ length old
-    now-size =
-        let e = pairs-length (now p.marked) in
-        let f = now-count p.marked in
-        ap length p.blanks ∙ over-length (pairs_of (now p.marked)) old (omega arith)
-
-    pub now-room : 2 * (ons + count) ≤ length words
-    now-room = rw now-size room
-
-    pub now-asked : Asked order (numbers_of counting) [] (first_rows (ons + count) old) → Asked order (numbers_of counting) [] (first_rows (ons + count) words)
+    pub now-asked : Asked order a [] (first ++ rows) → Asked order a [] now
     now-asked q = record {
       ordered = q.ordered;
       size = q.size;
       reach-a = q.reach-a;
       reach-b = q.reach-b;
-      cares = ap (cares_within (length order)) now-rows
-          ∙ blanked-within (length order) (first_rows ons old) p.marked (behind ons count old) (ap (cares_within (length order)) (before_split old ons count room) ∙ q.cares);
+      cares = ap (cares_within (length order)) p.blanks ∙ blanked-within (length order) first p.marked rows q.cares;
     }
 
-    pub count-within : stay ≤ i
+    pub count-within : stay ≤ at
     count-within = let e = kept-within p.marked in let f = p.count-is in let g = p.size in omega arith
 
-    pub turn : i < count → (b : Bool) → b ≡ stays order (numbers_of counting) (first_rows (ons + count) words) (ons + i)
-        → (new : List ℕ) → new ≡ over (pairs_of (judged_at b (first_rows (ons + count) words) (ons + i))) words
-        → (more : ℕ) → more ≡ stay + one b → Pruning order counting old ons count new more (i + 1)
+    pub turn : at < length now → (b : Bool) → b ≡ stays order a now at → (new : List Row) → new ≡ judged_at b now at
+        → (more : ℕ) → more ≡ stay + one b → Pruning order a first rows new more (at + 1)
     turn l b e new n more m =
-        let first : List Row = first_rows ons old in
-        let rows : List Row = behind ons count old in
         let marks : List Bool = p.marked in
-        let counts : ℕ → Bool = asks counting first in
-        let here : length marks < length rows = let f = p.size in let g = behind-size old ons count room in omega arith in
-        let place : ons + i ≡ length first + length marks = ap₂ (λ (x y : ℕ). x + y) (sym (first-size old ons count room)) (sym p.size) in
+        let here : length marks < length rows = let f = p.size in let g = now-length in omega arith in
         record {
           marked = marks ++ (b ∷ []);
-          size = length-append marks (b ∷ []) ∙ ap (λ (k : ℕ). k + 1) p.size;
-          within = omega arith;
-          blanks = n
-              ∙ ap₂ (λ (x : List Row) (k : ℕ). over (pairs_of (judged_at b x k)) words) now-rows place
-              ∙ ap₂ (λ (x : List Row) (ws : List ℕ). over (pairs_of x) ws) (row-judged order (numbers_of counting) first rows marks here b) p.blanks
-              ∙ over-again (now (marks ++ (b ∷ []))) (now marks) (ons + count) old (now-count (marks ++ (b ∷ []))) (now-count marks);
+          size = ap (λ (k : ℕ). length first + k) (length-append marks (b ∷ [])) ∙ (let f = p.size in omega arith);
+          blanks = n ∙ ap₂ (judged_at b) p.blanks (sym p.size) ∙ row-judged order a first rows marks here b;
           count-is = m ∙ ap (λ (k : ℕ). k + one b) p.count-is ∙ sym (kept_more marks b);
-          judged = judged-more counts order rows marks b blank here p.judged
-              (sym (e ∙ ap₂ (stays order (numbers_of counting)) now-rows place ∙ row-needed order (numbers_of counting) first rows marks here));
+          judged = judged-more (good a [] first) order rows marks b blank here p.judged
+              (sym (e ∙ ap₂ (stays order a) p.blanks (sym p.size) ∙ row-needed order a first rows marks here));
         }
 
-    pub finished : count ≤ i
-        → (words ≡ over (pairs_of (now (staying order counting ons count old))) old)
-        × (stay ≡ kept (staying order counting ons count old))
-    finished h =
-        let f = p.size in
-        let g = behind-size old ons count room in
-        let w = p.within in
-        let e = judged-all (asks counting (first_rows ons old)) order (behind ons count old) p.marked (omega arith) p.judged in
-        (p.blanks ∙ ap (λ (x : List Bool). over (pairs_of (now x)) old) e, p.count-is ∙ ap kept e)
+    all-marked : at ≡ length now → p.marked ≡ marks (good a [] first) order rows
+    all-marked h = judged-all (good a [] first) order rows p.marked (let f = p.size in let g = now-length in omega arith) p.judged
+
+    pub all-blanked : at ≡ length now → now ≡ first ++ blanked (marks (good a [] first) order rows) rows
+    all-blanked h = p.blanks ∙ ap (λ (m : List Bool). first ++ blanked m rows) (all-marked h)
+
+    pub all-counted : at ≡ length now → stay ≡ kept (marks (good a [] first) order rows)
+    all-counted h = p.count-is ∙ ap kept (all-marked h)
+
+-- The rows behind the first ones of a run, and the run with them changed.
+module _ (old : List Row) (ons count : ℕ) (room : ons + count ≤ length old) where
+  pub split : take (ons + count) old ≡ take ons old ++ behind ons count old
+  split = take-add ons count old
+
+  pub first-size : length (take ons old) ≡ ons
+  first-size = length-take-le ons old (omega arith)
+
+  pub behind-size : length (behind ons count old) ≡ count
+  behind-size = length-take-le count (drop ons old) (rw (length-drop ons old) (omega arith))
+
+  pub changed : (now new : List Row) → length now ≡ ons + count → now ≡ new → now ++ drop (ons + count) old ≡ over new old
+  changed now new l e = ap (λ (k : ℕ). now ++ drop k old) (sym l) ∙ ap (λ (rows : List Row). over rows old) e

@@ -1,56 +1,55 @@
 // Pruning: the rows in generated order, each judged against the others not dropped so far; a row that goes is blanked where it stands.
-ghost use Rattle.std.specs.Prelude.{◌≡◌, [], ◌++◌, ◌+◌, ◌*◌, ◌≤◌, ◌<◌, length};
+ghost use Rattle.std.specs.Prelude.{◌≡◌, [], ◌++◌, ◌+◌, ◌≤◌, ◌<◌, length, take};
 ghost use Rattle.rules.specs.Answers.{over};
 ghost use Rattle.rules.specs.Calls.{kept};
-ghost use Rattle.sheets.specs.Barred.{pairs_of};
 ghost use Rattle.sheets.specs.Numbers.{numbers_of};
 ghost use Rattle.search.specs.Question.{Asked};
 ghost use Rattle.method.specs.Blank.{blanked, judged_at};
-ghost use Rattle.method.specs.Lent.{first_rows, stays, behind, staying};
+ghost use Rattle.method.specs.Lent.{stays, behind, staying};
 
-use crate::put::put;
+use crate::solid::BLANK;
 use rules::Row;
-use search::{Found, find};
+use search::{Question, find};
 
-// Whether the row at `at` of the first `size` rows holds a setting that satisfies the sheet and lies in none of the others; if not, it is blanked.
-fn judge(order: &[u32], counting: &[u8], rows: &mut [u32], size: usize, at: usize) -> bool
-    requires asked { Asked order.now (numbers_of counting.now) [] (first_rows size rows.old) }
-    requires at_lt_size { at < size }
-    requires size_in_bounds { 2 * size ≤ length rows.old }
-    ensures value { result ≡ stays order.now (numbers_of counting.now) (first_rows size rows.old) at }
-    ensures rows_after { rows.new ≡ over (pairs_of (judged_at result (first_rows size rows.old) at)) rows.old }
+// Whether the row at `at` holds a setting that satisfies the sheet and lies in none of the others; if not, it is blanked.
+#[tactic(auto, unfolding(rules::specs::Calls::words_of))]
+fn judge(order: &[u32], counting: &[u8], rows: &mut [Row], at: usize) -> bool
+    requires asked { Asked order.now (numbers_of counting.now) [] rows.old }
+    requires at_in_bounds { at < length rows.old }
+    ensures value { result ≡ stays order.now (numbers_of counting.now) rows.old at }
+    ensures rows_after { rows.new ≡ judged_at result rows.old at }
 {
-    let row = Row {
-        care: rows[2 * at],
-        value: rows[2 * at + 1],
+    let row = rows[at];
+    rows[at] = BLANK;
+    let others = Question {
+        order,
+        swift: order,
+        a: counting,
+        b: &[],
+        rows,
     };
-    put(rows, at, Row { care: 0, value: 1 });
-    let met = find(order, row, counting, &counting[..0], &rows[..2 * size]);
-    match met {
-        Found::At(_) => {
-            put(rows, at, row);
-            true
-        }
-        Found::Nothing => false,
+    let stays = find(&others, row).is_some();
+    if stays {
+        rows[at] = row;
     }
+    stays
 }
 
 // Prunes the `count` rows behind the first `ons` rows of the run, first to last, and gives how many stay. What counts is a setting that
 // satisfies the sheet and lies in none of the first rows.
-pub fn prune(order: &[u32], counting: &[u8], rows: &mut [u32], ons: usize, count: usize) -> usize
-    requires asked { Asked order.now (numbers_of counting.now) [] (first_rows (ons + count) rows.old) }
-    requires count_in_bounds { 2 * (ons + count) ≤ length rows.old }
-    ensures rows_after { rows.new ≡ over (pairs_of (first_rows ons rows.old ++ blanked (staying order.now counting.now ons count rows.old) (behind ons count rows.old))) rows.old }
+pub fn prune(order: &[u32], counting: &[u8], rows: &mut [Row], ons: usize, count: usize) -> usize
+    requires asked { Asked order.now (numbers_of counting.now) [] (take (ons + count) rows.old) }
+    requires count_in_bounds { ons + count ≤ length rows.old }
+    ensures rows_after { rows.new ≡ over (take ons rows.old ++ blanked (staying order.now counting.now ons count rows.old) (behind ons count rows.old)) rows.old }
     ensures value { result ≡ kept (staying order.now counting.now ons count rows.old) }
 {
-    let size = ons + count;
+    let rows = &mut rows[..ons + count];
     let mut stay = 0;
-    let mut i = 0;
-    while i < count {
-        if judge(order, counting, rows, size, ons + i) {
+    // By index, since each row is judged against all others of the run.
+    for at in ons..rows.len() {
+        if judge(order, counting, rows, at) {
             stay += 1;
         }
-        i += 1;
     }
     stay
 }

@@ -1,72 +1,51 @@
-// The rows that are left are handed over: their care words in one run, their value words in another.
-ghost use Rattle.std.specs.Prelude.{◌≡◌, ◌+◌, ◌*◌, ◌≤◌, ◌<◌, length, set};
+// The rows that are left are handed over: their care words in one run, their value words in another, as the calls lend them.
+ghost use Rattle.std.specs.Prelude.{◌≡◌, ◌≤◌, length};
 ghost use Rattle.rules.specs.Answers.{over};
 ghost use Rattle.rules.specs.Calls.{cares, values};
-ghost use Rattle.sheets.specs.Barred.{rows_of};
 ghost use Rattle.method.specs.Blank.{is_blank, solid};
-ghost use Rattle.method.specs.Lent.{behind};
 
+use crate::cells::{Cells, Words};
 use rules::Row;
 
-// A blank is no row of a list.
+// What stands where a row went: no row of a list.
+pub const BLANK: Row = Row { care: 0, value: 1 };
+
+// The row is a blank.
 pub fn is_blank(row: Row) -> bool
     ensures { result ≡ is_blank row }
 {
-    row.care == 0 && row.value == 1
-}
-
-// Writes the row's two words to the k-th cells.
-fn copy_row(row: Row, care: &mut [u32], value: &mut [u32], k: usize)
-    requires k_in_bounds { k < length care.old }
-    requires k_in_bounds_2 { k < length value.old }
-    ensures care_after { care.new ≡ set care.old k row.care }
-    ensures value_after { value.new ≡ set value.old k row.value }
-{
-    care[k] = row.care;
-    value[k] = row.value;
+    row == BLANK
 }
 
 // Copies the rows that are no blanks, in order, to the first cells of the two runs, and gives their count.
-pub fn copy_solid(rows: &[u32], care: &mut [u32], value: &mut [u32]) -> usize
-    requires rows_in_bounds { length (solid (rows_of rows.now)) ≤ length care.old }
-    requires rows_in_bounds_2 { length (solid (rows_of rows.now)) ≤ length value.old }
-    ensures care_after { care.new ≡ over (cares (solid (rows_of rows.now))) care.old }
-    ensures value_after { value.new ≡ over (values (solid (rows_of rows.now))) value.old }
-    ensures value { result ≡ length (solid (rows_of rows.now)) }
+pub fn hand_over<C: Cells, V: Cells>(rows: &[Row], care: &mut C, value: &mut V) -> usize
+    requires care_has_room { length (solid rows.now) ≤ C.room (C.now care.old) }
+    requires value_has_room { length (solid rows.now) ≤ V.room (V.now value.old) }
+    ensures care_same { C.name care.new ≡ C.name care.old }
+    ensures care_after { C.now care.new ≡ C.with (cares (solid rows.now)) (C.now care.old) }
+    ensures value_same { V.name value.new ≡ V.name value.old }
+    ensures value_after { V.now value.new ≡ V.with (values (solid rows.now)) (V.now value.old) }
+    ensures value { result ≡ length (solid rows.now) }
 {
-    let end = rows.len() / 2;
+    // The cells are counted beside the rows, since blanks are passed over and the count is the answer.
     let mut count = 0;
-    let mut i = 0;
-    while i < end {
-        let row = Row {
-            care: rows[2 * i],
-            value: rows[2 * i + 1],
-        };
-        if !is_blank(row) {
-            copy_row(row, care, value, count);
+    for row in rows {
+        if !is_blank(*row) {
+            care.put(count, row.care);
+            value.put(count, row.value);
             count += 1;
         }
-        i += 1;
     }
     count
 }
 
-// The same, of the `count` rows behind the first `ons` rows of a run.
-pub fn copy_behind(
-    kept: &[u32],
-    ons: usize,
-    count: usize,
-    care: &mut [u32],
-    value: &mut [u32],
-) -> usize
-    requires count_in_bounds { 2 * (ons + count) ≤ length kept.now }
-    requires kept_in_bounds { length (solid (behind ons count kept.now)) ≤ length care.old }
-    requires kept_in_bounds_2 { length (solid (behind ons count kept.now)) ≤ length value.old }
-    ensures care_after { care.new ≡ over (cares (solid (behind ons count kept.now))) care.old }
-    ensures value_after { value.new ≡ over (values (solid (behind ons count kept.now))) value.old }
-    ensures value { result ≡ length (solid (behind ons count kept.now)) }
+// The same, to runs of words.
+pub fn copy_solid(rows: &[Row], care: &mut [u32], value: &mut [u32]) -> usize
+    requires care_has_room { length (solid rows.now) ≤ length care.old }
+    requires value_has_room { length (solid rows.now) ≤ length value.old }
+    ensures care_after { care.new ≡ over (cares (solid rows.now)) care.old }
+    ensures value_after { value.new ≡ over (values (solid rows.now)) value.old }
+    ensures value { result ≡ length (solid rows.now) }
 {
-    let from = 2 * ons;
-    let end = 2 * (ons + count);
-    copy_solid(&kept[from..end], care, value)
+    hand_over(rows, &mut Words { run: care }, &mut Words { run: value })
 }

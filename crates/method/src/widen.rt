@@ -1,41 +1,45 @@
 // Widening: from the row of all n literals of a setting, each literal goes, first place to last, if the row without it holds no off
 // setting. The whole widened row is searched, not the neighbouring setting.
-ghost use Rattle.std.specs.Prelude.{◌≡◌, cond, [], ◌≤◌};
+ghost use Rattle.std.specs.Prelude.{◌≡◌, cond, ◌≤◌};
 ghost use Rattle.rules.specs.Words.{max_inputs, without};
 ghost use Rattle.rules.specs.Search.{holds_some};
 ghost use Rattle.rules.specs.Method.{widen};
-ghost use Rattle.sheets.specs.Barred.{rows_of};
-ghost use Rattle.sheets.specs.Numbers.{numbers_of};
-ghost use Rattle.search.specs.Question.{good, Asked};
+ghost use Rattle.search.specs.Good.{good_of};
 
-use rules::{Place, Row, Setting, Var};
-use search::{Found, find, var_at};
+use rules::{Inputs, Row, Setting, Var};
+use search::{Question, find};
 
 // The row without the literal of v, if that holds no off setting; else the row.
-fn without_if_free(order: &[u32], row: Row, v: Var, off: &[u8], barred: &[u32]) -> Row
-    requires asked { Asked order.now (numbers_of off.now) [] (rows_of barred.now) }
-    requires le_v { (1 ≤ v.0) × (v.0 ≤ max_inputs) }
-    ensures { result ≡ cond (holds_some (good (numbers_of off.now) [] (rows_of barred.now)) order.now (without v.0 row)) row (without v.0 row) }
+fn without_if_free(off: &Question, row: Row, v: Var) -> Row
+    requires { (1 ≤ v.0) × (v.0 ≤ max_inputs) }
+    ensures { result ≡ cond (holds_some (good_of off.now) off.now.swift.now (without v.0 row)) row (without v.0 row) }
 {
     let wider = row.without(v);
-    let met = find(order, wider, off, &off[..0], barred);
-    match met {
-        Found::At(_) => row,
-        Found::Nothing => wider,
+    if find(off, wider).is_some() {
+        row
+    } else {
+        wider
     }
 }
 
-// The row that the setting widens to.
-pub fn widen(order: &[u32], s: Setting, off: &[u8], barred: &[u32]) -> Row
-    requires { Asked order.now (numbers_of off.now) [] (rows_of barred.now) }
-    ensures { result ≡ widen order.now (good (numbers_of off.now) [] (rows_of barred.now)) s.0 }
+// The row that the setting widens to. The question is asked in the given order, from a row with literals on.
+#[tactic(auto, using(search::proofs::Known::order_variable))]
+pub fn widen(off: &Question, s: Setting) -> Row
+    ensures { result ≡ widen off.now.order.now (good_of off.now) s.0 }
 {
-    let mut row = Row::full(order.len() as u32, s);
-    let mut at = 0;
-    while at < order.len() {
-        let v = var_at(order, Place(at));
-        row = without_if_free(order, row, v, off, barred);
-        at += 1;
+    let given = Question {
+        order: off.order,
+        swift: off.order,
+        a: off.a,
+        b: off.b,
+        rows: off.rows,
+    };
+    let inputs = Inputs {
+        count: off.order.len() as u32,
+    };
+    let mut row = Row::full(inputs, s);
+    for v in off.order {
+        row = without_if_free(&given, row, Var(*v));
     }
     row
 }

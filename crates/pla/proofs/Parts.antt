@@ -1,20 +1,26 @@
--- The text of a given list: its parts, and its length.
-use mathlib.Core.Path.{◌≡◌, ◌∙◌}
-use mathlib.Core.List.{List, ◌++◌, append_assoc}
-use Prim.Native.Nat.{ℕ, ◌+◌, ◌*◌, ◌≤◌}
-use lib.ListN.{length, take}
-use lib.Seq.{length-take-le}
+-- The text of a list: its parts, and its length.
+use Rattle.std.proofs.Common.{◌≡◌, ℕ, ◌+◌, ◌*◌, ◌≤◌, List, [], refl, ◌++◌, length, append_assoc, arith}
+use Rattle.std.proofs.Math.Nat.{mul-le-mul}
 use Rattle.rules.specs.declared.Row.{Row}
 use Rattle.rules.specs.Dimacs.{ascii}
-use Rattle.rules.specs.Pla.{digits, row_lines, text_of}
-use Rattle.rules.proofs.PlaText.{text-size}
+use Rattle.rules.specs.Pla.{row_lines, text_of}
+use Rattle.rules.proofs.PlaText.{row-size, rows-size, text-size}
+use Rattle.rules.proofs.PlaSteps.{row_lines-append, row_lines-one}
+use Rattle.rules.proofs.Lines.{digits-three}
 use Rattle.pla.specs.Head.{head_of}
+use Rattle.pla.proofs.Positions.{put_none}
 
-module _ (n count : ℕ) (rows : List Row) (within : count ≤ length rows) where
-  -- the lines above the rows, those of the rows, and the last
-  pub text-parts : text_of n (take count rows) ≡ head_of n count ++ (row_lines n (take count rows) ++ ascii ".e\n")
-  unfolding text_of
-  text-parts = rw (length-take-le count rows within) (simp append_assoc)
+-- the lines above the rows, those of the rows, and the last
+pub text-parts : (n : ℕ) (rows : List Row) → text_of n rows ≡ head_of n (length rows) ++ (row_lines n rows ++ ascii ".e\n")
+unfolding text_of
+text-parts n rows = simp append_assoc
 
-  pub text-length : length (text_of n (take count rows)) ≡ 16 + length (digits n) + length (digits count) + count * (n + 3)
-  text-length = text-size n (take count rows) ∙ rw (length-take-le count rows within)
+pub lines_most : (count n : ℕ) → count ≤ 256 → n ≤ 24 → count * (n + 3) ≤ 6912
+lines_most count n a b = mul-le-mul {m₂ = 27} a (omega arith)
+
+pub row_lines_none : (n : ℕ) → row_lines n [] ≡ []
+unfolding row_lines
+row_lines_none n = refl
+
+-- what the parts of a text add up to
+pub ruleset sizes = (append_assoc, put_none, row_lines_none, text-parts, text-size, rows-size, row-size, row_lines-append, row_lines-one, digits-three, lines_most)

@@ -1,3 +1,4 @@
--- What a function that puts bytes into a text promises, and the lines above the rows.
+-- What a writer that puts bytes into a text promises, and the lines above the rows.
 pub mod Put
+pub mod Written
 pub mod Head

@@ -20,11 +20,8 @@ fn show(
 
 fn answer(out: &impl Print, a: WriteAnswer) -> io::Result<()> {
     match a {
-        WriteAnswer::Length(size) => println!(out; "length {size}"),
-        WriteAnswer::Refused(refusal) => {
-            let number = refusal.number();
-            println!(out; "refused {number}")
-        }
+        Ok(size) => println!(out; "length {size}"),
+        Err(refusal) => println!(out; "refused {}", refusal.number()),
     }
 }
 

@@ -1,6 +1,5 @@
--- The laws of a refusal's line, of the order 1..n, of what answers say, and of the output step by step.
+-- The laws of a refusal's line, of what answers say, of a list's text, and of what is printed.
 pub mod Lines
-pub mod Counted
-pub mod Replies
+pub mod Verdicts
 pub mod Listing
 pub mod Outputs

@@ -1,2 +1,3 @@
--- What the printing of an answer leaves.
+-- What is printed, and what the steps of printing answer.
 pub mod Printed
+pub mod Results

@@ -1,3 +1,4 @@
--- Laws behind the calls on records, and of the search phase by itself.
-mod Runs
+-- Arrays made element by element, the calls on records, and the search phase by itself.
+pub mod Arrays
+pub mod Runs
 pub mod Phases

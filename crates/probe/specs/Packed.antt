@@ -1,5 +1,5 @@
 -- A reply in one number, for a program in another language: the number, how many values, the second and the first of them.
-use Rattle.std.specs.Prelude.{List, [], ◌∷◌, ℕ, ◌+◌, ◌-◌, ◌*◌, ◌%◌, ℤ, pos, negsuc, nat_abs, length}
+use Rattle.std.specs.Prelude.{List, [], ◌∷◌, ℕ, ◌+◌, ◌-◌, ◌*◌, ◌%◌, ℤ, pos, negsuc, length}
 use Rattle.std.proofs.Math.Option.{Option, none, some}
 use Rattle.rules.specs.Answers.{Reply}
 use Rattle.rules.specs.Calls.{first}
@@ -33,13 +33,3 @@ packed_token other = 4 * 2305843009213693952
 abbrev pub packed_step : Option Step → ℕ
 packed_step none = 0
 packed_step (some s) = packed_token s.token + s.place % 536870912 * 4294967296
-
--- The size of a token's number, and of a step's.
-abbrev pub size_of : Token → ℕ
-size_of (number z) = nat_abs z
-size_of ends = 0
-size_of other = 0
-
-abbrev pub size_in : Option Step → ℕ
-size_in none = 0
-size_in (some s) = size_of s.token

@@ -5,7 +5,7 @@ ghost use Rattle.rules.specs.Answers.{reply_of, after};
 ghost use Rattle.rules.specs.Calls.{rows_in, value as value_of, write};
 ghost use Rattle.probe.specs.Packed.{packed};
 
-use crate::pack::{value_reply, write_reply};
+use crate::pack::{count_reply, value_reply};
 use rules::Setting;
 use value::value_at;
 
@@ -33,5 +33,5 @@ pub extern "C" fn probe_write(
     ensures value { result ≡ packed (reply_of (λ t. length t ∷ []) (write n count (rows_in care.now value.now) (length text.old))) }
     ensures text_after { text.new ≡ after (λ t. t) (write n count (rows_in care.now value.now) (length text.old)) text.old }
 {
-    write_reply(pla::write(n, count, care, value, text))
+    count_reply(pla::write(n, count, care, value, text))
 }

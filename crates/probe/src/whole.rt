@@ -4,7 +4,7 @@ ghost use Rattle.rules.specs.Answers.{after, reply_of};
 ghost use Rattle.rules.specs.Calls.{cares, lent, list_values, room_in, values, whole};
 ghost use Rattle.probe.specs.Packed.{packed_counts};
 
-use crate::pack::list_reply;
+use crate::pack::count_reply;
 use lists::whole_list;
 
 #[unsafe(no_mangle)]
@@ -20,5 +20,5 @@ pub extern "C" fn probe_whole(
     ensures care_after { care.new ≡ after cares (whole n (lent order.now) (lent on.now) (lent off.now) (room_in care.old value.old)) care.old }
     ensures value_after { value.new ≡ after values (whole n (lent order.now) (lent on.now) (lent off.now) (room_in care.old value.old)) value.old }
 {
-    list_reply(whole_list(n, order, on, off, care, value))
+    count_reply(whole_list(n, order, on, off, care, value))
 }

@@ -4,7 +4,7 @@
 ghost use Rattle.std.specs.Prelude.{◌≡◌};
 ghost use Rattle.rules.specs.Dimacs.{step};
 ghost use Rattle.dimacs.specs.Parts.{step_is};
-ghost use Rattle.reader.specs.Moves.{moved_by, moved, moved_on};
+ghost use Rattle.reader.specs.Moves.{moved, moved_on};
 
 use dimacs::{Step, next_token};
 
@@ -15,16 +15,6 @@ pub struct Reader<'a> {
     pub position: usize,
 }
 
-// Behind the token of a step, or where it began if none was left.
-fn moved_by(step: Step, position: usize) -> usize
-    ensures { result ≡ moved_by (step_is step) position }
-{
-    match step {
-        Step::Token(_, place) => place,
-        Step::NoneLeft => position,
-    }
-}
-
 impl<'a> Reader<'a> {
     pub fn at(text: &'a [u8], position: usize) -> Reader<'a>
         ensures { (result.text ≡ text.entry) × (result.position ≡ position) }
@@ -32,15 +22,13 @@ impl<'a> Reader<'a> {
         Reader { text, position }
     }
 
-    // One step over the inputs 1..v: the next token, and on behind it; or that none is left.
+    // One step over the inputs 1..v: the next token, and on behind it; or that none is left, and the position stays.
     pub fn next(&mut self, v: u32) -> Step
         ensures { (step_is result ≡ step v self.old.text.now self.old.position)
             × ((self.new.text ≡ self.old.text) × (self.new.position ≡ moved v self.old.text.now self.old.position)) }
     {
-        let text = self.text;
-        let position = self.position;
-        let step = next_token(v, text, position);
-        self.position = moved_by(step, position);
+        let step = next_token(v, self.text, self.position);
+        self.position = step.map_or(self.position, |(_, place)| place);
         step
     }
 }
@@ -51,10 +39,8 @@ pub fn token_after(v: u32, text: &[u8], position: usize, k: usize) -> Step
     ensures { step_is result ≡ step v text.now (moved_on v text.now position k) }
 {
     let mut reader = Reader::at(text, position);
-    let mut i: usize = 0;
-    while i < k {
+    for _ in 0..k {
         reader.next(v);
-        i = i + 1;
     }
     reader.next(v)
 }

@@ -7,39 +7,19 @@ use std::io;
 // The first steps from a position on, over the inputs 1..v.
 fn show(out: &impl Print, v: u32, text: &[u8], position: usize, steps: usize) -> io::Result<()> {
     print!(out; "from {position}:")?;
-    each(out, v, text, position, steps)?;
-    println!(out; "")
-}
-
-fn each(out: &impl Print, v: u32, text: &[u8], position: usize, steps: usize) -> io::Result<()> {
     for k in 0..steps {
         tell(out, reader::token_after(v, text, position, k))?;
     }
-    Ok(())
+    println!(out; "")
 }
 
 fn tell(out: &impl Print, step: Step) -> io::Result<()> {
-    print!(out; " ")?;
     match step {
-        Step::Token(t, place) => {
-            token(out, t)?;
-            print!(out; "@{place}")
-        }
-        Step::NoneLeft => print!(out; "none"),
+        Some((Token::Number(z), place)) => print!(out; " {z}@{place}"),
+        Some((Token::Percent, place)) => print!(out; " %@{place}"),
+        Some((Token::Other, place)) => print!(out; " other@{place}"),
+        None => print!(out; " none"),
     }
-}
-
-fn token(out: &impl Print, t: Token) -> io::Result<()> {
-    match t {
-        Token::Number(z) => number(out, z),
-        Token::Percent => print!(out; "%"),
-        Token::Other => print!(out; "other"),
-    }
-}
-
-// A number in decimals, with its sign if it lies below 0.
-fn number(out: &impl Print, z: i64) -> io::Result<()> {
-    print!(out; "{z}")
 }
 
 fn main(rt: HostRuntime) -> io::Result<()> {

@@ -1,9 +1,11 @@
 // Lists of records: what the call answers, and the marks after it.
 #![tactic(auto)]
 
-use records::Cube;
+ghost use Rattle.std.specs.Prelude.{◌≤◌, length};
+
+use records::{Cube, pruned_array};
 use rules::PruneAnswer;
-use std::io;
+use std::{array, io};
 
 fn cube(care: u32, value: u32, dropped: bool) -> Cube {
     Cube {
@@ -13,77 +15,67 @@ fn cube(care: u32, value: u32, dropped: bool) -> Cube {
     }
 }
 
+// The cubes, and 9/9 marked behind them.
+fn first(cubes: &[Cube]) -> [Cube; 256]
+    requires { length cubes.now ≤ 256 }
+{
+    let mut all = [cube(9, 9, true); 256];
+    all[..cubes.len()].copy_from_slice(cubes);
+    all
+}
+
+// The 256 settings of eight inputs, each a row of its own.
+fn settings() -> [Cube; 256] {
+    array::from_fn(|i| cube(255, i as u32, true))
+}
+
 // The call on the records: its answer, and the first seven records after it.
 fn show(out: &impl Print, n: u32, records: [Cube; 256], count: usize) -> io::Result<()> {
-    let pruned = records::pruned_array(n, records, count);
-    let told = pruned.answer;
-    answer(out, told)?;
-    let after = pruned.records;
-    record(out, after[0])?;
-    record(out, after[1])?;
-    record(out, after[2])?;
-    record(out, after[3])?;
-    record(out, after[4])?;
-    record(out, after[5])?;
-    record(out, after[6])?;
+    let pruned = pruned_array(n, records, count);
+    answer(out, pruned.answer)?;
+    for after in &pruned.records[..7] {
+        record(out, *after)?;
+    }
     println!(out; "")
 }
 
 fn answer(out: &impl Print, a: PruneAnswer) -> io::Result<()> {
     match a {
-        PruneAnswer::Kept(count) => print!(out; "kept {count}:"),
-        PruneAnswer::Refused(refusal) => {
-            let number = refusal.number();
-            print!(out; "refused {number}:")
-        }
+        Ok(count) => print!(out; "kept {count}:"),
+        Err(refusal) => print!(out; "refused {}:", refusal.number()),
     }
 }
 
 // Care, value, and x for dropped.
 fn record(out: &impl Print, c: Cube) -> io::Result<()> {
-    let care = c.care;
-    let value = c.value;
-    print!(out; " {care}/{value}")?;
-    if c.dropped {
-        print!(out; "x")?;
-    }
-    Ok(())
+    let mark = if c.dropped { "x" } else { "" };
+    print!(out; " {}/{}{mark}", c.care, c.value)
 }
 
 fn main(rt: HostRuntime) -> io::Result<()> {
     // no rows: nothing is looked at, nothing is marked
-    let marked = [cube(9, 9, true); 256];
-    show(&rt, 3, marked, 0)?;
+    show(&rt, 3, first(&[]), 0)?;
     // -00, 0-0, 10-: the first goes
-    let mut a = marked;
-    a[0] = cube(6, 0, false);
-    a[1] = cube(5, 0, true);
-    a[2] = cube(3, 1, true);
+    let mut a = first(&[cube(6, 0, false), cube(5, 0, true), cube(3, 1, true)]);
     show(&rt, 3, a, 3)?;
     // of the first two alone none goes, and marks set before do not matter
     show(&rt, 3, a, 2)?;
     // of equal rows the first goes
-    let mut b = marked;
-    b[0] = cube(3, 1, true);
-    b[1] = cube(3, 1, true);
-    show(&rt, 2, b, 2)?;
+    show(&rt, 2, first(&[cube(3, 1, true), cube(3, 1, true)]), 2)?;
     // 0, 1 and -: each of the first two lies in the third, which stays; the other way round the first goes
-    b[0] = cube(1, 0, false);
-    b[1] = cube(1, 1, false);
-    b[2] = cube(0, 0, true);
+    let b = first(&[cube(1, 0, false), cube(1, 1, false), cube(0, 0, true)]);
     show(&rt, 1, b, 3)?;
-    b[0] = cube(0, 0, false);
-    b[1] = cube(1, 0, true);
-    b[2] = cube(1, 1, true);
+    let b = first(&[cube(0, 0, false), cube(1, 0, true), cube(1, 1, true)]);
     show(&rt, 1, b, 3)?;
     // -01, -10, 0-1, 1-0, 01-, 10-: each lies in the others together
-    let mut d = marked;
-    d[0] = cube(6, 4, true);
-    d[1] = cube(6, 2, true);
-    d[2] = cube(5, 4, true);
-    d[3] = cube(5, 1, true);
-    d[4] = cube(3, 2, true);
-    d[5] = cube(3, 1, true);
+    let d = first(&[
+        cube(6, 4, true),
+        cube(6, 2, true),
+        cube(5, 4, true),
+        cube(5, 1, true),
+        cube(3, 2, true),
+        cube(3, 1, true),
+    ]);
     show(&rt, 3, d, 6)?;
     // every refusal leaves the marks that were set before
     show(&rt, 0, a, 3)?;
@@ -97,15 +89,4 @@ fn main(rt: HostRuntime) -> io::Result<()> {
     // 256 records: equal ones, and the settings of eight inputs
     show(&rt, 24, [cube(0, 0, true); 256], 256)?;
     show(&rt, 8, settings(), 256)
-}
-
-// The 256 settings of eight inputs, each a row of its own.
-fn settings() -> [Cube; 256] {
-    let mut all = [cube(255, 0, true); 256];
-    let mut i = 0;
-    while i < 256 {
-        all[i] = cube(255, i as u32, true);
-        i = i + 1;
-    }
-    all
 }

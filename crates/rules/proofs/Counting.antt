@@ -11,7 +11,8 @@ use borrow.Author.Tests.{eqb-true, eqb-false}
 use Rattle.rules.specs.declared.Row.{Row}
 use Rattle.rules.specs.Words.{one, in_some}
 use Rattle.rules.specs.Method.{next, widen, generated}
-use Rattle.rules.proofs.Logic.{test, either, option, clash, some-none, and_both, and-join, or-none, or_right, fails, not_yes, yes-not}
+use Rattle.rules.proofs.Logic.{test, either, option, clash, some-none}
+use Rattle.std.proofs.lemmas.Bool.{and_parts, and_from, or_parts, or_right, false_from_ne_true, not-true, not_from_false}
 use Rattle.rules.proofs.Rows.{in_some-append, in_some-one}
 use Rattle.rules.proofs.Orders.{IsOrder}
 use Rattle.rules.proofs.Generation.{next-is, widened-holds, step-none, step-some}
@@ -58,17 +59,17 @@ module _ (n : ℕ) (order : List ℕ) (o : IsOrder n order) (on off : ℕ → Bo
       let p = next-is n order o on off rows s e in
       let more : List Row = rows ++ (widen order off s ∷ []) in
       passing-lt (unheld more) (unheld rows) (2 ^ n)
-      (λ t l q. let a = and_both (on t) (not (in_some more t)) q in
-      let b = or-none (in_some rows t) (in_some (widen order off s ∷ []) t) (sym (in_some-append rows (widen order off s ∷ []) t) ∙ not_yes (in_some more t) a.1) in
-      and-join a.0 (yes-not b.0))
+      (λ t l q. let a = and_parts (on t) (not (in_some more t)) q in
+      let b = or_parts (in_some rows t) (in_some (widen order off s ∷ []) t) (sym (in_some-append rows (widen order off s ∷ []) t) ∙ not-true (in_some more t) a.1) in
+      and_from _ _ a.0 (not_from_false _ b.0))
       s p.0
-      (fails (λ q. let a = and_both (on s) (not (in_some more s)) q in
-      clash (in_some-append rows (widen order off s ∷ []) s ∙ or_right (in_some rows s) (in_some-one (widen order off s) s ∙ widened-holds n order o on off s p.0))
-      (not_yes (in_some more s) a.1)))
-      (and-join p.1 (yes-not p.2))
+      (false_from_ne_true _ (λ q. let a = and_parts (on s) (not (in_some more s)) q in
+      clash (in_some-append rows (widen order off s ∷ []) s ∙ or_right (in_some rows s) _ (in_some-one (widen order off s) s ∙ widened-holds n order o on off s p.0))
+      (not-true (in_some more s) a.1)))
+      (and_from _ _ p.1 (not_from_false _ p.2))
 
   falls : (k : ℕ) → Falls k
-  falls zero = inr (omega (arith, passing-le (unheld (rows_at 0)) on (2 ^ n) (λ s l q. (and_both (on s) (not (in_some (rows_at 0) s)) q).0)))
+  falls zero = inr (omega (arith, passing-le (unheld (rows_at 0)) on (2 ^ n) (λ s l q. (and_parts (on s) (not (in_some (rows_at 0) s)) q).0)))
   falls (suc k) =
       let ih = falls k in
       option (next order on (rows_at k))

@@ -7,13 +7,14 @@ use Prim.Native.Nat.{ℕ, ◌-◌}
 use lib.Dec.{eqb}
 use borrow.Author.Tests.{eqb-true, eq-eqb}
 use Rattle.rules.specs.declared.Row.{Row}
-use Rattle.rules.specs.Words.{is_one, before, smaller, fixes, dashes, at_zero, at_one}
+use Rattle.rules.specs.Words.{is_one, before, smaller, fixes, dashes, at_zero, at_one, fixed_at}
 use Rattle.rules.specs.Search.{or_else, smallest, not_below}
-use Rattle.rules.proofs.Logic.{test, clash, fails, or_left, or_right}
+use Rattle.rules.proofs.Logic.{test, clash}
+use Rattle.std.proofs.lemmas.Bool.{false_from_ne_true, or_left, or_right}
 use Rattle.rules.proofs.Bits.{bit, bit-zero}
 use Rattle.rules.proofs.Rows.{dashes-row}
 use Rattle.rules.proofs.Orders.{has, Distinct, IsOrder}
-use Rattle.rules.proofs.Fixed.{Under, row_under, fixed_at, other-care, fixed-under}
+use Rattle.rules.proofs.Fixed.{Under, row_under, other-care, fixed-under}
 use Rattle.rules.proofs.Reach.{smallest-try, Reach, same, turn-bit}
 use Rattle.rules.proofs.Smallest.{resume}
 use Rattle.rules.proofs.Cut.{cut}
@@ -34,13 +35,13 @@ Free vs r = (i : ℕ) → has i vs ≡ true → bit i r.care ≡ false
 
 pub free-first : (v : ℕ) (vs : List ℕ) (r : Row) → Free (v ∷ vs) r → fixes r v ≡ false
 unfolding has
-free-first v vs r f = f (v - 1) (or_left (has (v - 1) vs) (eq-eqb (v - 1) (v - 1) refl))
+free-first v vs r f = f (v - 1) (or_left _ (has (v - 1) vs) (eq-eqb (v - 1) (v - 1) refl))
 
 pub free-rest : (b : Bool) (v : ℕ) (vs : List ℕ) (r : Row) → has (v - 1) vs ≡ false → Free (v ∷ vs) r → Free vs (fixed_at b v r)
 unfolding has
 free-rest b v vs r d f i h =
-    other-care b v r i (fails (λ q. clash (subst (λ (k : ℕ). has k vs ≡ true) (sym (eqb-true (v - 1) i q)) h) d))
-    ∙ f i (or_right (eqb (v - 1) i) h)
+    other-care b v r i (false_from_ne_true _ (λ q. clash (subst (λ (k : ℕ). has k vs ≡ true) (sym (eqb-true (v - 1) i q)) h) d))
+    ∙ f i (or_right (eqb (v - 1) i) _ h)
 
 -- the bound at the place of a free variable v, by the value that is tried there
 module _ (P : ℕ → Bool) (start v : ℕ) (vs : List ℕ) (r : Row) (u : Under r) (f : fixes r v ≡ false) where

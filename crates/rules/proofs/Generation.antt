@@ -13,7 +13,8 @@ use Rattle.rules.specs.declared.Row.{Row}
 use Rattle.rules.specs.Words.{holds, is_row, fixes, fits, dashes, full, without, in_some}
 use Rattle.rules.specs.Search.{found}
 use Rattle.rules.specs.Method.{next, widen, grown, generated, complete}
-use Rattle.rules.proofs.Logic.{test, option, clash, some-none, and_both, and-join, fails, not_yes, yes-not}
+use Rattle.rules.proofs.Logic.{test, option, clash, some-none}
+use Rattle.std.proofs.lemmas.Bool.{and_parts, and_from, false_from_ne_true, not-true, not_from_false}
 use Rattle.rules.proofs.Bits.{bit_high}
 use Rattle.rules.proofs.Rows.{dashes-row, dashes-holds, full-row, full-holds}
 use Rattle.rules.proofs.Orders.{has, IsOrder}
@@ -104,14 +105,14 @@ module _ (n : ℕ) (order : List ℕ) (o : IsOrder n order) (on off : ℕ → Bo
   unfolding next
   next-is rows s e =
       let P : ℕ → Bool = λ s. on s && not (in_some rows s) in
-      let p = and_both (on s) (not (in_some rows s)) (smallest-passes n order o P dashes (dashes-row n) s e) in
-      (smallest-below n order o P dashes (dashes-row n) s e, p.0, not_yes (in_some rows s) p.1)
+      let p = and_parts (on s) (not (in_some rows s)) (smallest-passes n order o P dashes (dashes-row n) s e) in
+      (smallest-below n order o P dashes (dashes-row n) s e, p.0, not-true (in_some rows s) p.1)
 
   pub next-none : (rows : List Row) → next order on rows ≡ none → (s : ℕ) → s < 2 ^ n → on s ≡ true → in_some rows s ≡ true
   unfolding next
   next-none rows e s l h =
       test (in_some rows s) (λ q. q)
-      (λ q. clash (and-join h (yes-not q)) (smallest-none n order o (λ s. on s && not (in_some rows s)) dashes (dashes-row n) e s l (dashes-holds s)))
+      (λ q. clash (and_from _ _ h (not_from_false _ q)) (smallest-none n order o (λ s. on s && not (in_some rows s)) dashes (dashes-row n) e s l (dashes-holds s)))
 
   -- A setting's widened row is a row, and holds the setting.
   pub start-row : (s : ℕ) → s < 2 ^ n → is_row n (full (length order) s) ≡ true
@@ -151,12 +152,12 @@ module _ (n : ℕ) (order : List ℕ) (o : IsOrder n order) (on off : ℕ → Bo
     -- The row of all literals of an on setting holds no off setting.
     start-misses : (s : ℕ) → s < 2 ^ n → on s ≡ true → Misses n off (full (length order) s)
     start-misses s l h t k f =
-        fails (λ e. clash (subst (λ (x : ℕ). off x ≡ true) (eqb-true t s (sym (full-holds n s t k) ∙ subst (λ (m : ℕ). holds (full m s) t ≡ true) o.size e)) f) (apart s l h))
+        false_from_ne_true _ (λ e. clash (subst (λ (x : ℕ). off x ≡ true) (eqb-true t s (sym (full-holds n s t k) ∙ subst (λ (m : ℕ). holds (full m s) t ≡ true) o.size e)) f) (apart s l h))
 
     -- A variable that a row of n inputs fixes has a place in the order.
     fixed-place : (r : Row) (v : ℕ) → is_row n r ≡ true → fixes r v ≡ true → has (v - 1) order ≡ true
     fixed-place r v w h =
-        let b = and_both (fits n r.care) _ w in
+        let b = and_parts (fits n r.care) _ w in
         test (ltb (v - 1) n)
         (λ q. o.every (v - 1) (ltb-true (v - 1) n q))
         (λ q. clash h (bit_high n (v - 1) r.care (ltb-true r.care (2 ^ n) b.0) (ltb-false (v - 1) n q)))

@@ -10,7 +10,8 @@ use lib.ListN.{length, take, drop}
 use lib.Seq.{take-append_seam, drop-append_seam}
 use borrow.Author.Tests.{ltb-true}
 use Rattle.rules.specs.Answers.{Reply, Check, Verdict, given, refused, judge, after}
-use Rattle.rules.proofs.Logic.{test, either, and_both}
+use Rattle.rules.proofs.Logic.{test, either}
+use Rattle.std.proofs.lemmas.Bool.{and_parts}
 
 -- No check of the list applies.
 abbrev pub NoneApply : List Check → Type 0
@@ -79,7 +80,7 @@ ascending cs = ascend_from 0 cs
 ascend-above : (k : ℕ) (cs : List Check) (d : Check) → ascend_from k cs ≡ true → In d cs → k < d.reply.number
 ascend-above k [] d up i = absurd i
 ascend-above k (c ∷ cs) d up i =
-    let (low, more) = and_both (ltb k c.reply.number) (ascend_from c.reply.number cs) up in
+    let (low, more) = and_parts (ltb k c.reply.number) (ascend_from c.reply.number cs) up in
     let below = ltb-true k c.reply.number low in
     either i (λ q. subst (λ x. k < x.reply.number) (sym q) below) λ j. let above = ascend-above c.reply.number cs d more j in omega arith
 
@@ -170,7 +171,7 @@ module _ {A : Type 0} (a : A) where
   given-lowest : (k : ℕ) (cs : List Check) {r : Reply} → ascend_from k cs ≡ true → judge cs a ≡ refused r → Lowest cs r
   given-lowest k [] up h = given-not-refused (judge-none [] tt) h
   given-lowest k (c ∷ cs) up h =
-      let more = (and_both (ltb k c.reply.number) (ascend_from c.reply.number cs) up).1 in
+      let more = (and_parts (ltb k c.reply.number) (ascend_from c.reply.number cs) up).1 in
       test c.applies (λ t. lowest-here more t (refused-inj {A = A} (sym (judge-applies c cs t) ∙ h)))
       λ f. lowest-later f (given-lowest c.reply.number cs more (sym (judge-passes c cs f) ∙ h))
 
@@ -178,7 +179,7 @@ module _ {A : Type 0} (a : A) where
   lowest-given : (k : ℕ) (cs : List Check) {r : Reply} → ascend_from k cs ≡ true → Lowest cs r → judge cs a ≡ refused r
   lowest-given k [] up l = absurd l.stands
   lowest-given k (c ∷ cs) {r} up l =
-      let more = (and_both (ltb k c.reply.number) (ascend_from c.reply.number cs) up).1 in
+      let more = (and_parts (ltb k c.reply.number) (ascend_from c.reply.number cs) up).1 in
       let same : l.check.reply.number ≡ r.number = ap (λ x. x.number) l.reply in
       either l.stands (λ e. judge-applies c cs (sym (ap (λ x. x.applies) e) ∙ l.applies) ∙ ap refused (sym (ap (λ x. x.reply) e) ∙ l.reply))
       λ i. let above = ascend-above c.reply.number cs l.check more i in

@@ -22,7 +22,7 @@ pub mod Tokens
 pub mod Sole
 pub mod Judged
 pub mod Refusals
-pub mod Inputs
+pub mod Between
 pub mod GivenRows
 pub mod ReadForm
 pub mod Listed
@@ -30,3 +30,5 @@ pub mod Returned
 pub mod Demands
 pub mod Printed
 pub mod Table
+pub mod Counted
+pub mod Limits

@@ -11,7 +11,8 @@ use lib.ListN.{length}
 use borrow.Author.Tests.{ne_eqb, le-leb, ltb-true, ltb-false}
 use Rattle.rules.specs.Dimacs.{is_digit, digits_from}
 use Rattle.rules.specs.Pla.{digit, digits, into_line, lines}
-use Rattle.rules.proofs.Logic.{test, and_both, and-join, not_yes, yes-not}
+use Rattle.rules.proofs.Logic.{test}
+use Rattle.std.proofs.lemmas.Bool.{and_parts, and_from, not-true, not_from_false}
 
 -- the bytes hold no line feed
 unfoldable pub plain : List ℕ → Bool
@@ -20,11 +21,11 @@ plain (b ∷ t) = not (eqb b (code "\n")) && plain t
 
 pub plain_more : (b : ℕ) (t : List ℕ) → eqb b (code "\n") ≡ false → plain t ≡ true → plain (b ∷ t) ≡ true
 unfolding plain
-plain_more b t p q = and-join (yes-not p) q
+plain_more b t p q = and_from _ _ (not_from_false _ p) q
 
 plain-first : (b : ℕ) (t : List ℕ) → plain (b ∷ t) ≡ true → (eqb b (code "\n") ≡ false) × (plain t ≡ true)
 unfolding plain
-plain-first b t p = let h = and_both (not (eqb b (code "\n"))) (plain t) p in (not_yes (eqb b (code "\n")) h.0, h.1)
+plain-first b t p = let h = and_parts (not (eqb b (code "\n"))) (plain t) p in (not-true (eqb b (code "\n")) h.0, h.1)
 
 pub plain-append : (a b : List ℕ) → plain a ≡ true → plain b ≡ true → plain (a ++ b) ≡ true
 plain-append [] b p q = q
@@ -41,7 +42,7 @@ pub digit-plain : (d : ℕ) → eqb (digit d) (code "\n") ≡ false
 digit-plain d = ne_eqb (digit d) 10 (omega arith)
 
 pub digit-digit : (d : ℕ) → is_digit (digit d) ≡ true
-digit-digit d = and-join (le-leb 48 (digit d) (omega arith)) (le-leb (digit d) 57 (omega arith))
+digit-digit d = and_from _ _ (le-leb 48 (digit d) (omega arith)) (le-leb (digit d) 57 (omega arith))
 
 -- a number has one digit, two or three
 pub digits-cases {ℓ} : (P : List ℕ → Type ℓ) (m : ℕ) → (m < 10 → P (digit m ∷ [])) → (10 ≤ m → m < 100 → P (digit (m / 10) ∷ digit m ∷ []))

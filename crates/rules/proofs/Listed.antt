@@ -15,7 +15,8 @@ use Rattle.rules.specs.Sheets.{satisfies}
 use Rattle.rules.specs.Method.{max_rows, generated, marks, picked, pruned, all, list_of}
 use Rattle.rules.specs.Answers.{given}
 use Rattle.rules.specs.Calls.{Run, collision, are_rows, whole}
-use Rattle.rules.proofs.Logic.{test, clash, and_both, and-join, fails}
+use Rattle.rules.proofs.Logic.{test, clash}
+use Rattle.std.proofs.lemmas.Bool.{and_parts, and_from, false_from_ne_true}
 use Rattle.rules.proofs.Rows.{dashes-row, dashes-holds}
 use Rattle.rules.proofs.Orders.{IsOrder, is-order}
 use Rattle.rules.proofs.Smallest.{smallest-none}
@@ -33,7 +34,7 @@ pub record Right (n : ℕ) (on off : ℕ → Bool) (rows : List Row) : Type 0 wh
 primes-rows : (n : ℕ) (off : ℕ → Bool) (rows : List Row) → All (Prime n off) rows → are_rows n rows ≡ true
 unfolding are_rows
 primes-rows n off [] p = refl
-primes-rows n off (r ∷ rows) p = and-join p.0.row (primes-rows n off rows p.1)
+primes-rows n off (r ∷ rows) p = and_from _ _ p.0.row (primes-rows n off rows p.1)
 
 primes-miss : (n : ℕ) (off : ℕ → Bool) (rows : List Row) → All (Prime n off) rows → (s : ℕ) → s < 2 ^ n → off s ≡ true → in_some rows s ≡ false
 unfolding in_some
@@ -45,7 +46,7 @@ pub no-collision : (n : ℕ) (order : List ℕ) (o : IsOrder n order) (on off : 
     → (s : ℕ) → s < 2 ^ n → on s ≡ true → off s ≡ false
 unfolding collision
 no-collision n order o on off e s l h =
-    fails (λ f. clash (and-join h f) (smallest-none n order o (λ s. on s && off s) dashes (dashes-row n) e s l (dashes-holds s)))
+    false_from_ne_true _ (λ f. clash (and_from _ _ h f) (smallest-none n order o (λ s. on s && off s) dashes (dashes-row n) e s l (dashes-holds s)))
 
 module _ (n : ℕ) (order : Run ℕ) (on off : Run ℤ) (room : ℕ) (rows : List Row) (h : whole n order on off room ≡ given rows) where
   accepted : Accepted n order on off room rows
@@ -55,7 +56,7 @@ module _ (n : ℕ) (order : Run ℕ) (on off : Run ℤ) (room : ℕ) (rows : Lis
   accepted-order = is-order n order.items accepted.order
 
   pub accepted-inputs : (1 ≤ n) × (n ≤ max_inputs)
-  accepted-inputs = let b = and_both (leb 1 n) (leb n max_inputs) accepted.inputs in (leb-true 1 n b.0, leb-true n max_inputs b.1)
+  accepted-inputs = let b = and_parts (leb 1 n) (leb n max_inputs) accepted.inputs in (leb-true 1 n b.0, leb-true n max_inputs b.1)
 
   pub accepted-right : Right n (satisfies on.items) (satisfies off.items) rows
   unfolding list_of

@@ -17,7 +17,9 @@ use Rattle.rules.specs.Method.{max_rows}
 use Rattle.rules.specs.Calls.{are_rows}
 use Rattle.rules.specs.Dimacs.{ascii, digits_from}
 use Rattle.rules.specs.Pla.{digits, bit_char, row_chars, row_lines, text_of, lines, agrees, line_holds, is_row_line, some_line, read_at, read_count, rows_among, rows_read}
-use Rattle.rules.proofs.Logic.{test, clash, and_both, and-join, both_ways, yes-not, some_inj}
+use Rattle.rules.proofs.Logic.{test, clash, both_ways}
+use Rattle.std.proofs.lemmas.Bool.{and_parts, and_from, not_from_false}
+use Rattle.std.proofs.Math.Option.{some-injective}
 use Rattle.rules.proofs.Bits.{bit, bit-and, bit_high}
 use Rattle.rules.proofs.Rows.{holds-bits, bits-holds}
 use Rattle.rules.proofs.PlaCount.{body, text-lines, text-count}
@@ -87,7 +89,7 @@ line-agrees : (i k : ℕ) (r : Row) (s : ℕ) → ((j : ℕ) → (bit j r.value 
     → (j : ℕ) → i ≤ j → j < i + k → Agree r s j
 line-agrees i zero r s u h j a b = let w : ⊥ = omega arith in absurd w
 line-agrees i (suc k) r s u h j a b =
-    let g = and_both (char_agrees r s i) (line_holds (suc (suc i)) (line_from (suc i) k r) s) (sym (line_step i k r s) ∙ h) in
+    let g = and_parts (char_agrees r s i) (line_holds (suc (suc i)) (line_from (suc i) k r) s) (sym (line_step i k r s) ∙ h) in
     from_step (Agree r s) i k (char-agrees (bit i r.care) (bit i r.value) (bit i s) (u i) g.0) (line-agrees (suc i) k r s u g.1) j a b
 
 agrees-line : (i k : ℕ) (r : Row) (s : ℕ) → ((j : ℕ) → i ≤ j → j < i + k → Agree r s j) → line_holds (suc i) (line_from i k r) s ≡ true
@@ -95,7 +97,7 @@ unfolding row_chars line_holds
 agrees-line i zero r s h = refl
 agrees-line i (suc k) r s h =
     line_step i k r s
-    ∙ and-join (agrees-char (bit i r.care) (bit i r.value) (bit i s) (h i (omega arith) (omega arith)))
+    ∙ and_from _ _ (agrees-char (bit i r.care) (bit i r.value) (bit i s) (h i (omega arith) (omega arith)))
     (agrees-line (suc i) k r s λ j a b. h j (omega arith) (omega arith))
 
 -- a dash agrees with both values
@@ -106,7 +108,7 @@ dash-agrees false v b p r = char-agrees false v b r refl
 -- a row's line agrees with a setting exactly if the row holds it
 pub line-holds : (n : ℕ) (r : Row) (s : ℕ) → is_row n r ≡ true → line_holds 1 (row_chars 1 n r ++ ascii " 1") s ≡ holds r s
 line-holds n r s h =
-    let g = and_both (fits n r.care) (eqb (bit_and r.value r.care) r.value) h in
+    let g = and_parts (fits n r.care) (eqb (bit_and r.value r.care) r.value) h in
     let u : (j : ℕ) → (bit j r.value && bit j r.care) ≡ bit j r.value =
     λ j. sym (bit-and j r.value r.care) ∙ ap (bit j) (eqb-true (bit_and r.value r.care) r.value g.1) in
     let high : (j : ℕ) → n ≤ j → bit j r.care ≡ false = λ j l. bit_high n j r.care (ltb-true r.care (2 ^ n) g.0) l in
@@ -125,7 +127,7 @@ some-dot l t s p = rw (lines-line (code "." ∷ l) t p)
 row-is_line : (n : ℕ) (r : Row) → 1 ≤ n → is_row_line (row_chars 1 n r ++ ascii " 1") ≡ true
 unfolding row_chars
 row-is_line zero r l = let w : ⊥ = omega arith in absurd w
-row-is_line (suc k) r l = yes-not (char-kinds (fixes r 1) (is_one 1 r.value)).2
+row-is_line (suc k) r l = not_from_false _ (char-kinds (fixes r 1) (is_one 1 r.value)).2
 
 -- such a line says what it holds; a row's line, what the row holds
 some-line : (l : List ℕ) (ls : List (List ℕ)) (s : ℕ) → is_row_line l ≡ true → some_line (l ∷ ls) s ≡ (line_holds 1 l s || some_line ls s)
@@ -147,7 +149,7 @@ some-rows : (n : ℕ) (rows : List Row) (s : ℕ) → 1 ≤ n → are_rows n row
 unfolding row_lines are_rows in_some lines some_line
 some-rows n [] s l h = refl
 some-rows n (r ∷ rows) s l h =
-    let g = and_both (is_row n r) (are_rows n rows) h in
+    let g = and_parts (is_row n r) (are_rows n rows) h in
     ap (λ x. some_line (lines x) s) (append_assoc (row_chars 1 n r) (ascii " 1\n" ++ row_lines n rows) (ascii ".e\n"))
     ∙ some-row n r (row_lines n rows ++ ascii ".e\n") s l g.0
     ∙ ap (λ b. holds r s || b) (some-rows n rows s l g.1)
@@ -173,7 +175,7 @@ text-first n rows =
 pub text-inputs : (n m : ℕ) (xs ys : List Row) → n ≤ 24 → m ≤ 24 → text_of n xs ≡ text_of m ys → n ≡ m
 text-inputs n m xs ys a b e =
     let same : digits n ≡ digits m = cc ((text-first n xs).1, (text-first m ys).1) in
-    some_inj (sym (digits-read n (omega arith)) ∙ ap (digits_from 0) same ∙ digits-read m (omega arith))
+    some-injective _ _ (sym (digits-read n (omega arith)) ∙ ap (digits_from 0) same ∙ digits-read m (omega arith))
 
 -- a row's line is the first of a text that begins with it
 row_first : (n : ℕ) (r : Row) (t : List ℕ) → lines (row_chars 1 n r ++ (ascii " 1\n" ++ t)) ≡ (row_chars 1 n r ++ ascii " 1") ∷ lines t

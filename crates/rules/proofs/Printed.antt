@@ -13,7 +13,7 @@ use Rattle.rules.specs.Answers.{given, check}
 use Rattle.rules.specs.Pla.{text_of, read_at}
 use Rattle.rules.specs.Calls.{Read, lent, read, whole}
 use Rattle.rules.specs.Program.{shown, list_output, output}
-use Rattle.rules.proofs.Logic.{no-not}
+use Rattle.std.proofs.lemmas.Bool.{not_from_true}
 use Rattle.rules.proofs.Judged.{judge-none}
 use Rattle.rules.proofs.ReadForm.{read-form}
 use Rattle.rules.proofs.Same.{Same}
@@ -30,7 +30,7 @@ module _ (on_text off_text : List ℕ) (on off : Read) (reads : ReadAs on_text o
   pub output-is : output on_text off_text ≡ list_output on.inputs on off
   unfolding output
   output-is =
-      let passed = judge-none on.inputs (check 14 (not (eqb on.inputs off.inputs)) ∷ []) (no-not (eq-eqb on.inputs off.inputs reads.same_inputs), tt) in
+      let passed = judge-none on.inputs (check 14 (not (eqb on.inputs off.inputs)) ∷ []) (not_from_true _ (eq-eqb on.inputs off.inputs reads.same_inputs), tt) in
       rw (reads.on_read, reads.off_read, passed)
 
   -- An accepted pair: the whole list gives rows.
@@ -60,10 +60,10 @@ module _ (on_text off_text on_text' off_text' : List ℕ) (on off on' off' : Rea
   unfolding list_output
   same-output n a b =
       let k = on.inputs in
-      let on_formed = no-not (formed on_text on reads.on_read) in
-      let on_formed' = no-not (subst (λ m. well_formed m on'.numbers ≡ true) (sym n) (formed on_text' on' reads'.on_read)) in
-      let off_formed = no-not (subst (λ m. well_formed m off.numbers ≡ true) (sym reads.same_inputs) (formed off_text off reads.off_read)) in
-      let off_formed' = no-not (subst (λ m. well_formed m off'.numbers ≡ true) (sym (n ∙ reads'.same_inputs)) (formed off_text' off' reads'.off_read)) in
+      let on_formed = not_from_true _ (formed on_text on reads.on_read) in
+      let on_formed' = not_from_true _ (subst (λ m. well_formed m on'.numbers ≡ true) (sym n) (formed on_text' on' reads'.on_read)) in
+      let off_formed = not_from_true _ (subst (λ m. well_formed m off.numbers ≡ true) (sym reads.same_inputs) (formed off_text off reads.off_read)) in
+      let off_formed' = not_from_true _ (subst (λ m. well_formed m off'.numbers ≡ true) (sym (n ∙ reads'.same_inputs)) (formed off_text' off' reads'.off_read)) in
       let same = wording-is-nothing k (lent (natural k)) (lent on.numbers) (lent on'.numbers) (lent off.numbers) (lent off'.numbers) on_formed on_formed' off_formed off_formed' a b max_rows in
       output-is on_text off_text on off reads ∙ ap (λ v. shown k v (text_of k)) same ∙ ap (λ m. list_output m on' off') n
       ∙ sym (output-is on_text' off_text' on' off' reads')

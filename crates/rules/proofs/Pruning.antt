@@ -7,7 +7,8 @@ use Prim.Native.Nat.{ℕ, ◌^◌, ◌<◌}
 use Rattle.rules.specs.declared.Row.{Row}
 use Rattle.rules.specs.Words.{holds, is_row, in_some}
 use Rattle.rules.specs.Method.{needed, marks_after, picked, pruned}
-use Rattle.rules.proofs.Logic.{test, clash, and_both, and-join, or-none, both_ways, not_yes, yes-not}
+use Rattle.rules.proofs.Logic.{test, clash, both_ways}
+use Rattle.std.proofs.lemmas.Bool.{and_parts, and_from, or_parts, not-true, not_from_false}
 use Rattle.rules.proofs.Rows.{in_some-append}
 use Rattle.rules.proofs.Orders.{IsOrder}
 use Rattle.rules.proofs.Smallest.{some-yes, some-no}
@@ -48,7 +49,7 @@ module _ (order : List ℕ) (counts : ℕ → Bool) where
   unfolding in_some
   left-within kept [] s h = unfold marks_after picked in h
   left-within kept (r ∷ rest) s h =
-      let b = or-none (holds r s) (in_some rest s) h in
+      let b = or_parts (holds r s) (in_some rest s) h in
       test (needed counts order r (kept ++ rest))
       (λ e. subst (λ (l : List Row). in_some l s ≡ false) (sym (stays kept r rest e)) (rw b.0 (left-within (kept ++ (r ∷ [])) rest s b.1)))
       (λ e. subst (λ (l : List Row). in_some l s ≡ false) (sym (goes kept r rest e)) (left-within kept rest s b.1))
@@ -56,7 +57,7 @@ module _ (order : List ℕ) (counts : ℕ → Bool) where
   -- What the rest does not hold, others beside the same rows do not hold either.
   beside : (kept xs ys : List Row) (s : ℕ) → (in_some xs s ≡ false → in_some ys s ≡ false) → in_some (kept ++ xs) s ≡ false → in_some (kept ++ ys) s ≡ false
   beside kept xs ys s f h =
-      let b = or-none (in_some kept s) (in_some xs s) (sym (in_some-append kept xs s) ∙ h) in
+      let b = or_parts (in_some kept s) (in_some xs s) (sym (in_some-append kept xs s) ∙ h) in
       in_some-append kept ys s ∙ rw (b.0, f b.1)
 
   module _ (n : ℕ) (o : IsOrder n order) where
@@ -64,14 +65,14 @@ module _ (order : List ℕ) (counts : ℕ → Bool) where
     needed-yes : (r : Row) (others : List Row) → is_row n r ≡ true → needed counts order r others ≡ true → Alone n counts r others
     needed-yes r others w e =
         let p = some-yes n order o (λ s. counts s && not (in_some others s)) r w e in
-        let b = and_both (counts p.0) (not (in_some others p.0)) p.3 in
-        (p.0, p.1, b.0, p.2, not_yes (in_some others p.0) b.1)
+        let b = and_parts (counts p.0) (not (in_some others p.0)) p.3 in
+        (p.0, p.1, b.0, p.2, not-true (in_some others p.0) b.1)
 
     needed-no : (r : Row) (others : List Row) → is_row n r ≡ true → needed counts order r others ≡ false
         → (s : ℕ) → s < 2 ^ n → counts s ≡ true → holds r s ≡ true → in_some others s ≡ true
     needed-no r others w e s l c h =
         test (in_some others s) (λ q. q)
-        (λ q. clash (and-join c (yes-not q)) (some-no n order o (λ s. counts s && not (in_some others s)) r w e s l h))
+        (λ q. clash (and_from _ _ c (not_from_false _ q)) (some-no n order o (λ s. counts s && not (in_some others s)) r w e s l h))
 
     pub needed-alone : (r : Row) (others : List Row) → is_row n r ≡ true → (needed counts order r others ≡ true) ↔ Alone n counts r others
     needed-alone r others w = (

@@ -16,7 +16,8 @@ use Rattle.rules.specs.Search.{found}
 use Rattle.rules.specs.Answers.{given}
 use Rattle.rules.specs.Dimacs.{◌>>=◌, ascii, is_digit, after_comments, after_bytes, after_spaces, after_all, front, header_end, Header, header, Token, number, ends, other, signed, within, decimal, token_of, join_number, tokens, numbers}
 use Rattle.rules.specs.Calls.{Read, read}
-use Rattle.rules.proofs.Logic.{test, clash, and_both, and-join, not-no}
+use Rattle.rules.proofs.Logic.{test, clash}
+use Rattle.std.proofs.lemmas.Bool.{and_parts, and_from, not-false}
 use Rattle.rules.proofs.Refusals.{given-none, header_of, body_of, read_result, read-judges}
 
 -- What holds of nothing, and of the second step wherever the first one leads, holds of both steps in a row.
@@ -32,7 +33,7 @@ Between low high (some m) = (low ≤ m) × (m ≤ high)
 within-between : (low high m : ℕ) → Between low high (within low high m)
 within-between low high m =
     test (leb low m && leb m high)
-    (λ t. let (l, h) = and_both (leb low m) (leb m high) t in rw t (leb-true low m l, leb-true m high h))
+    (λ t. let (l, h) = and_parts (leb low m) (leb m high) t in rw t (leb-true low m l, leb-true m high h))
     λ f. rw f tt
 
 between : (low high : ℕ) (o : Option ℕ) → Between low high (o >>= within low high)
@@ -91,7 +92,7 @@ all_reach v (some zs) = in_reach v zs
 join-reach : (v : ℕ) (t : Token) (later : Option (List ℤ)) → token_reach v t ≡ true → all_reach v later ≡ true → all_reach v (join_number t later) ≡ true
 unfolding in_reach
 join-reach v (number z) none h l = refl
-join-reach v (number z) (some zs) h l = and-join h l
+join-reach v (number z) (some zs) h l = and_from _ _ h l
 join-reach v ends later h l = refl
 join-reach v other later h l = refl
 
@@ -123,13 +124,13 @@ read-form text room h =
     let (e, (a10, (a11, (a12, (a13, (a15, end)))))) = given-none (read-judges text room) h in
     let zs = (read_result text).numbers in
     let (least, most, few) = subst InLimits (present (header text) _ a11) (header-limits text) in
-    let (counted, closed) = and_both (eqb (clauses zs) (header_of text).clauses) (ends_closed true zs) (not-no _ a13) in
+    let (counted, closed) = and_parts (eqb (clauses zs) (header_of text).clauses) (ends_closed true zs) (not-false _ a13) in
     let same = eqb-true (clauses zs) (header_of text).clauses counted in
     let short : length zs ≤ min room max_numbers = ltb-false (min room max_numbers) (length zs) a15 in
     subst (λ x. InForm x room) e
     (record {
       at_least = least;
       at_most = most;
-      sheet = and-join (le-leb (length zs) max_numbers (omega arith)) (and-join (le-leb (clauses zs) max_clauses (omega arith)) (and-join closed (body-reach text a12)));
+      sheet = and_from _ _ (le-leb (length zs) max_numbers (omega arith)) (and_from _ _ (le-leb (clauses zs) max_clauses (omega arith)) (and_from _ _ closed (body-reach text a12)));
       fits = omega arith;
     })

@@ -19,7 +19,8 @@ use Rattle.rules.specs.Dimacs.{max_bytes, Header, header, numbers, tokens}
 use Rattle.rules.specs.Pla.{text_of}
 use Rattle.rules.specs.Calls.{Run, Partial, Read, collision, whole_for, whole, partial_for, partial, query, prune, value, write, read}
 use Rattle.rules.specs.Calls.{refusal1, refusal2, refusal3, refusal4, refusal6, refusal7, refusal8, refusal9, refusal15, not_well_formed}
-use Rattle.rules.proofs.Logic.{clash, and_both, not-no}
+use Rattle.rules.proofs.Logic.{clash}
+use Rattle.std.proofs.lemmas.Bool.{and_parts, not-false}
 use Rattle.rules.proofs.Judged.{NoneApply, Lowest, ascending, judge-given, lowest}
 
 -- The verdict judges these checks, whose numbers ascend, and then gives this result.
@@ -124,10 +125,10 @@ read-judges text room = record { judged = refl; ascends = refl }
 
 -- What holds of an accepted sheet, and of an accepted order.
 well-formed : (n : ℕ) (sheet : Run ℤ) → not_well_formed n sheet ≡ false → well_formed n sheet.items ≡ true
-well-formed n sheet h = (and_both sheet.is_whole (well_formed n sheet.items) (not-no _ h)).1
+well-formed n sheet h = (and_parts sheet.is_whole (well_formed n sheet.items) (not-false _ h)).1
 
 an-order : (n : ℕ) (order : Run ℕ) → (refusal2 n order).applies ≡ false → is_order n order.items ≡ true
-an-order n order h = (and_both order.is_whole (is_order n order.items) (not-no _ h)).1
+an-order n order h = (and_parts order.is_whole (is_order n order.items) (not-false _ h)).1
 
 not_found : (o : Option ℕ) → found o ≡ false → o ≡ none
 not_found none h = refl
@@ -148,12 +149,12 @@ pub whole-accepted : (n : ℕ) (order : Run ℕ) (on off : Run ℤ) (room : ℕ)
 whole-accepted n order on off room h =
     let (e, (a1, (a2, (a3, (a4, (a6, (a7, (a15, end)))))))) = given-none (whole-judges n order on off room) h in
     record {
-      inputs = not-no (is_inputs n) a1;
+      inputs = not-false (is_inputs n) a1;
       order = an-order n order a2;
       on = well-formed n on a3;
       off = well-formed n off a4;
       apart = not_found _ a6;
-      complete = not-no _ a7;
+      complete = not-false _ a7;
       fits = subst (λ l. length l ≤ room) e (ltb-false room _ a15);
       rows = e;
     }
@@ -175,7 +176,7 @@ pub partial-accepted : (n : ℕ) (order : Run ℕ) (on off : Run ℤ) (k room : 
 partial-accepted n order on off k room h =
     let (e, (a1, (a2, (a3, (a4, (a5, (a6, (a15, end)))))))) = given-none (partial-judges n order on off k room) h in
     record {
-      inputs = not-no (is_inputs n) a1;
+      inputs = not-false (is_inputs n) a1;
       order = an-order n order a2;
       on = well-formed n on a3;
       off = well-formed n off a4;

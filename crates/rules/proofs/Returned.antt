@@ -16,7 +16,8 @@ use Rattle.rules.specs.Search.{found}
 use Rattle.rules.specs.Method.{max_rows}
 use Rattle.rules.specs.Answers.{Reply, Check, check, Verdict, refused, judge}
 use Rattle.rules.specs.Calls.{Run, first, listed, collision, refusal2, refusal6, form, whole_for, whole, partial_for, partial}
-use Rattle.rules.proofs.Logic.{test, either, option, clash, and_both, not-no}
+use Rattle.rules.proofs.Logic.{test, either, option, clash}
+use Rattle.std.proofs.lemmas.Bool.{and_parts, not-false}
 use Rattle.rules.proofs.Rows.{dashes-row}
 use Rattle.rules.proofs.Orders.{IsOrder, is-order}
 use Rattle.rules.proofs.Smallest.{Least, found-smallest}
@@ -41,7 +42,7 @@ module _ {A : Type 0} (a : A) where
   bare-reply : (cs : List Check) {r : Reply} → bare cs ≡ true → judge cs a ≡ refused r → r.values ≡ []
   bare-reply [] b h = given-not-refused (judge-none a [] tt) h
   bare-reply (c ∷ cs) b h =
-      let (mine, more) = and_both (eqb (length c.reply.values) 0) (bare cs) b in
+      let (mine, more) = and_parts (eqb (length c.reply.values) 0) (bare cs) b in
       test c.applies (λ t. subst (λ r. r.values ≡ []) (refused-inj {A = A} (sym (judge-applies a c cs t) ∙ h)) (no-values c.reply.values mine))
       λ f. bare-reply cs more (sym (judge-passes a c cs f) ∙ h)
 
@@ -53,7 +54,7 @@ module _ {A : Type 0} (a : A) where
       λ f. inl (bare-reply later q (sym (judge-passes a c later f) ∙ h))
   bare-but-one (b ∷ before) c later p q h =
       let cs = before ++ (c ∷ later) in
-      let (mine, more) = and_both (eqb (length b.reply.values) 0) (bare before) p in
+      let (mine, more) = and_parts (eqb (length b.reply.values) 0) (bare before) p in
       test b.applies (λ t. inl (subst (λ r. r.values ≡ []) (refused-inj {A = A} (sym (judge-applies a b cs t) ∙ h)) (no-values b.reply.values mine)))
       λ f. either (bare-but-one before c later more q (sym (judge-passes a b cs f) ∙ h)) inl λ x. inr ((f, x.0), x.1, x.2)
 
@@ -112,7 +113,7 @@ module _ {A : Type 0} (a : A) (n : ℕ) (order : List ℕ) (on off : ℕ → Boo
 
   pub refused-both : ((s : ℕ) × (verdict ≡ refused (collides s))) ↔ (NoneApply before × SomeBoth n on off)
   refused-both = (
-    λ x. let y = (refused-6 x.0).0 x.1 in let b = and_both (on x.0) (off x.0) y.1.passed in (y.0, (x.0, y.1.below, b.0, b.1)),
+    λ x. let y = (refused-6 x.0).0 x.1 in let b = and_parts (on x.0) (off x.0) y.1.passed in (y.0, (x.0, y.1.below, b.0, b.1)),
     λ y. let s = some-smallest n order (o y.0) on off y.1 in (s.0, (refused-6 s.0).1 (y.0, s.1)),
   )
 
@@ -121,7 +122,7 @@ abbrev pub partial_form : ℕ → Run ℕ → Run ℤ → Run ℤ → ℕ → Li
 partial_form n order on off k = form n order on off ++ (check 5 (ltb max_rows k) ∷ [])
 
 formed : (n : ℕ) (order : Run ℕ) → (refusal2 n order).applies ≡ false → IsOrder n order.items
-formed n order h = is-order n order.items (and_both order.is_whole (is_order n order.items) (not-no _ h)).1
+formed n order h = is-order n order.items (and_parts order.is_whole (is_order n order.items) (not-false _ h)).1
 
 -- The two calls in which sheets may collide.
 module _ (n : ℕ) (order : Run ℕ) (on off : Run ℤ) where

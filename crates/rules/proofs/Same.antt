@@ -14,7 +14,8 @@ use Rattle.rules.specs.Search.{found, holds_some}
 use Rattle.rules.specs.Method.{max_rows, next, widen_at, widen, grown, generated, complete, pruned, all, list_of}
 use Rattle.rules.specs.Answers.{Check, check, judge}
 use Rattle.rules.specs.Calls.{Run, refusal2, form, not_well_formed, collision, whole_for, whole, partial_for, partial}
-use Rattle.rules.proofs.Logic.{test, option, and_both, yes-not}
+use Rattle.rules.proofs.Logic.{test, option}
+use Rattle.std.proofs.lemmas.Bool.{and_parts, not_from_false}
 use Rattle.rules.proofs.Rows.{dashes-row, without-row}
 use Rattle.rules.proofs.Orders.{IsOrder, is-order}
 use Rattle.rules.proofs.Smallest.{smallest-same}
@@ -89,8 +90,8 @@ module _ (n : ℕ) (order : Run ℕ) (on on' off off' : Run ℤ) (form_on : not_
   order-first : {C : Type 0} → (is_order n order.items ≡ true → C) → ((refusal2 n order).applies ≡ true → C) → C
   order-first is_one is_none =
       test (order.is_whole && is_order n order.items)
-      (λ q. is_one (and_both order.is_whole (is_order n order.items) q).1)
-      (λ q. is_none (yes-not q))
+      (λ q. is_one (and_parts order.is_whole (is_order n order.items) q).1)
+      (λ q. is_none (not_from_false _ q))
 
   pub same_whole : (room : ℕ) → whole n order on off room ≡ whole n order on' off' room
   unfolding whole whole_for judge

@@ -11,7 +11,8 @@ use borrow.Author.Tests.{eqb-true, ltb-true, ltb-false}
 use Rattle.rules.specs.declared.Row.{Row}
 use Rattle.rules.specs.Words.{is_one, before, smaller, holds, is_row, dashes, at_zero, at_one}
 use Rattle.rules.specs.Search.{found, smallest, holds_some, not_below}
-use Rattle.rules.proofs.Logic.{test, either, option, clash, fails, or_cases}
+use Rattle.rules.proofs.Logic.{test, either, option, clash}
+use Rattle.std.proofs.lemmas.Bool.{false_from_ne_true, or_cases}
 use Rattle.rules.proofs.Bits.{bit, bit-ext, bit_high, bit_below}
 use Rattle.rules.proofs.Rows.{dashes-row}
 use Rattle.rules.proofs.Orders.{has, IsOrder}
@@ -68,7 +69,7 @@ pub record Least (n : ℕ) (order : List ℕ) (passes : ℕ → Bool) (r : Row) 
 module _ (n : ℕ) (order : List ℕ) (o : IsOrder n order) where
   -- no variable of the order has a bit from n up
   outside : (i : ℕ) → n ≤ i → has i order ≡ false
-  outside i l = fails (λ h. let m : i < n = o.inside i h in omega arith)
+  outside i l = false_from_ne_true _ (λ h. let m : i < n = o.inside i h in omega arith)
 
   module _ (r : Row) (is_row : is_row n r ≡ true) where
     -- over the whole order the search can come to the settings of the row

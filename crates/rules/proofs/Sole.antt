@@ -4,24 +4,12 @@ use mathlib.Core.Bool.{true, false, cond}
 use mathlib.Core.List.{List, [], ◌∷◌}
 use Prim.Native.Nat.{ℕ}
 use lib.Dec.{eqb}
-use Rattle.rules.specs.Answers.{Reply, refusal_reply, list_reply, partial_reply, query_reply, prune_reply, value_reply, read_reply, write_reply}
+use Rattle.rules.specs.Answers.{Reply, refusal_reply, count_reply, list_reply, partial_reply, query_reply, prune_reply, value_reply, read_reply, write_reply}
 use Rattle.rules.specs.Calls.{first}
 use Rattle.rules.specs.declared.Refusal.{Refusal}
 use Rattle.rules.specs.declared.Refusal.TheVariants.{Inputs, Order, OnSheet, OffSheet, Asked, Collision, TooManyRows, GivenList, GivenSetting, LongText, Header, Token, Clauses, OtherInputs, Room}
-use Rattle.rules.specs.declared.ListAnswer.{ListAnswer}
-use Rattle.rules.specs.declared.PartialAnswer.{PartialAnswer}
-use Rattle.rules.specs.declared.QueryAnswer.{QueryAnswer}
-use Rattle.rules.specs.declared.PruneAnswer.{PruneAnswer}
-use Rattle.rules.specs.declared.ValueAnswer.{ValueAnswer}
-use Rattle.rules.specs.declared.ReadAnswer.{ReadAnswer}
-use Rattle.rules.specs.declared.WriteAnswer.{WriteAnswer}
-use Rattle.rules.specs.declared.ListAnswer.TheVariants as whole
-use Rattle.rules.specs.declared.PartialAnswer.TheVariants as part
-use Rattle.rules.specs.declared.QueryAnswer.TheVariants as query
-use Rattle.rules.specs.declared.PruneAnswer.TheVariants as prune
-use Rattle.rules.specs.declared.ValueAnswer.TheVariants as value
-use Rattle.rules.specs.declared.ReadAnswer.TheVariants as read
-use Rattle.rules.specs.declared.WriteAnswer.TheVariants as write
+use Rattle.rules.specs.declared.Setting.{Setting}
+use Rattle.std.specs.Prelude.{Bool, Result, Ok, Err, Option, Some, None}
 
 -- What can be read back from its reply is determined by it.
 sole : {A : Type 0} (reply : A → Reply) (back : Reply → A) → ((a : A) → back (reply a) ≡ a) → (a b : A) → reply a ≡ reply b → a ≡ b
@@ -70,93 +58,77 @@ pub refusal-sole : (a b : Refusal) → refusal_reply a ≡ refusal_reply b → a
 refusal-sole = sole refusal_reply refusal_of (λ f. (refusal-back f).0)
 
 -- An answer by number: 0 is a result, read back from its values, and any other a refusal.
-abbrev answer_of : {A : Type 0} → (List ℕ → A) → (Refusal → A) → Reply → A
-answer_of result refused r = cond (eqb r.number 0) (result r.values) (refused (refusal_of r))
+abbrev answer_of : {A : Type 0} → (List ℕ → A) → Reply → Result A Refusal
+answer_of result r = cond (eqb r.number 0) (Ok (result r.values)) (Err (refusal_of r))
 
-refused-back : {A : Type 0} (result : List ℕ → A) (refused : Refusal → A) (f : Refusal) → answer_of result refused (refusal_reply f) ≡ refused f
-refused-back result refused f = rw ((refusal-back f).1, (refusal-back f).0)
+refused-back : {A : Type 0} (result : List ℕ → A) (f : Refusal) → answer_of result (refusal_reply f) ≡ Err f
+refused-back result f = rw ((refusal-back f).1, (refusal-back f).0)
 
 abbrev second : List ℕ → ℕ
 second [] = 0
 second (v ∷ vs) = first vs
 
--- The count of the rows.
-abbrev list_from : List ℕ → ListAnswer
-list_from vs = whole.Rows (first vs)
+-- A count: of the rows, of those that stay, or of a text's bytes.
+count-back : (a : Result ℕ Refusal) → answer_of first (count_reply a) ≡ a
+count-back (Ok count) = refl
+count-back (Err f) = refused-back first f
 
-list_back : (a : ListAnswer) → answer_of list_from whole.Refused (list_reply a) ≡ a
-list_back (whole.Rows count) = refl
-list_back (whole.Refused f) = refused-back list_from whole.Refused f
+pub count-sole : (a b : Result ℕ Refusal) → count_reply a ≡ count_reply b → a ≡ b
+count-sole = sole count_reply (answer_of first) count-back
 
-pub list-sole : (a b : ListAnswer) → list_reply a ≡ list_reply b → a ≡ b
-list-sole = sole list_reply (answer_of list_from whole.Refused) list_back
+pub list-sole : (a b : Result ℕ Refusal) → list_reply a ≡ list_reply b → a ≡ b
+list-sole = count-sole
+
+pub prune-sole : (a b : Result ℕ Refusal) → prune_reply a ≡ prune_reply b → a ≡ b
+prune-sole = count-sole
+
+pub write-sole : (a b : Result ℕ Refusal) → write_reply a ≡ write_reply b → a ≡ b
+write-sole = count-sole
 
 -- The count of the rows, and whether they are all.
-abbrev partial_from : List ℕ → PartialAnswer
-partial_from vs = part.Rows (first vs) (eqb (second vs) 1)
+abbrev partial_from : List ℕ → ℕ × Bool
+partial_from vs = (first vs, eqb (second vs) 1)
 
-partial-back : (a : PartialAnswer) → answer_of partial_from part.Refused (partial_reply a) ≡ a
-partial-back (part.Rows count true) = refl
-partial-back (part.Rows count false) = refl
-partial-back (part.Refused f) = refused-back partial_from part.Refused f
+partial-back : (a : Result (ℕ × Bool) Refusal) → answer_of partial_from (partial_reply a) ≡ a
+partial-back (Ok (count, true)) = refl
+partial-back (Ok (count, false)) = refl
+partial-back (Err f) = refused-back partial_from f
 
-pub partial-sole : (a b : PartialAnswer) → partial_reply a ≡ partial_reply b → a ≡ b
-partial-sole = sole partial_reply (answer_of partial_from part.Refused) partial-back
+pub partial-sole : (a b : Result (ℕ × Bool) Refusal) → partial_reply a ≡ partial_reply b → a ≡ b
+partial-sole = sole partial_reply (answer_of partial_from) partial-back
 
 -- The setting, or none.
-abbrev query_from : List ℕ → QueryAnswer
-query_from [] = query.Nothing
-query_from (s ∷ vs) = query.Found (record { 0 = s })
+abbrev query_from : List ℕ → Option Setting
+query_from [] = None
+query_from (s ∷ vs) = Some (record { 0 = s })
 
-query-back : (a : QueryAnswer) → answer_of query_from query.Refused (query_reply a) ≡ a
-query-back (query.Found s) = refl
-query-back query.Nothing = refl
-query-back (query.Refused f) = refused-back query_from query.Refused f
+query-back : (a : Result (Option Setting) Refusal) → answer_of query_from (query_reply a) ≡ a
+query-back (Ok (Some s)) = refl
+query-back (Ok None) = refl
+query-back (Err f) = refused-back query_from f
 
-pub query-sole : (a b : QueryAnswer) → query_reply a ≡ query_reply b → a ≡ b
-query-sole = sole query_reply (answer_of query_from query.Refused) query-back
-
--- The count of the rows kept.
-abbrev prune_from : List ℕ → PruneAnswer
-prune_from vs = prune.Kept (first vs)
-
-prune-back : (a : PruneAnswer) → answer_of prune_from prune.Refused (prune_reply a) ≡ a
-prune-back (prune.Kept count) = refl
-prune-back (prune.Refused f) = refused-back prune_from prune.Refused f
-
-pub prune-sole : (a b : PruneAnswer) → prune_reply a ≡ prune_reply b → a ≡ b
-prune-sole = sole prune_reply (answer_of prune_from prune.Refused) prune-back
+pub query-sole : (a b : Result (Option Setting) Refusal) → query_reply a ≡ query_reply b → a ≡ b
+query-sole = sole query_reply (answer_of query_from) query-back
 
 -- The value.
-abbrev value_from : List ℕ → ValueAnswer
-value_from vs = value.Value (eqb (first vs) 1)
+abbrev value_from : List ℕ → Bool
+value_from vs = eqb (first vs) 1
 
-value-back : (a : ValueAnswer) → answer_of value_from value.Refused (value_reply a) ≡ a
-value-back (value.Value true) = refl
-value-back (value.Value false) = refl
-value-back (value.Refused f) = refused-back value_from value.Refused f
+value-back : (a : Result Bool Refusal) → answer_of value_from (value_reply a) ≡ a
+value-back (Ok true) = refl
+value-back (Ok false) = refl
+value-back (Err f) = refused-back value_from f
 
-pub value-sole : (a b : ValueAnswer) → value_reply a ≡ value_reply b → a ≡ b
-value-sole = sole value_reply (answer_of value_from value.Refused) value-back
+pub value-sole : (a b : Result Bool Refusal) → value_reply a ≡ value_reply b → a ≡ b
+value-sole = sole value_reply (answer_of value_from) value-back
 
 -- The inputs, and the count of the numbers.
-abbrev read_from : List ℕ → ReadAnswer
-read_from vs = read.Sheet (first vs) (second vs)
+abbrev read_from : List ℕ → ℕ × ℕ
+read_from vs = (first vs, second vs)
 
-read_back : (a : ReadAnswer) → answer_of read_from read.Refused (read_reply a) ≡ a
-read_back (read.Sheet inputs count) = refl
-read_back (read.Refused f) = refused-back read_from read.Refused f
+read_back : (a : Result (ℕ × ℕ) Refusal) → answer_of read_from (read_reply a) ≡ a
+read_back (Ok (inputs, count)) = refl
+read_back (Err f) = refused-back read_from f
 
-pub read-sole : (a b : ReadAnswer) → read_reply a ≡ read_reply b → a ≡ b
-read-sole = sole read_reply (answer_of read_from read.Refused) read_back
-
--- The text's length.
-abbrev write_from : List ℕ → WriteAnswer
-write_from vs = write.Length (first vs)
-
-write-back : (a : WriteAnswer) → answer_of write_from write.Refused (write_reply a) ≡ a
-write-back (write.Length count) = refl
-write-back (write.Refused f) = refused-back write_from write.Refused f
-
-pub write-sole : (a b : WriteAnswer) → write_reply a ≡ write_reply b → a ≡ b
-write-sole = sole write_reply (answer_of write_from write.Refused) write-back
+pub read-sole : (a b : Result (ℕ × ℕ) Refusal) → read_reply a ≡ read_reply b → a ≡ b
+read-sole = sole read_reply (answer_of read_from) read_back

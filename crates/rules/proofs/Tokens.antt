@@ -5,7 +5,8 @@ use mathlib.Core.List.{List, [], ◌∷◌}
 use Prim.Native.Nat.{ℕ}
 use native.Mathlib.Omega.{arith}
 use Rattle.rules.specs.Dimacs.{is_blank, not_blank, front, after_all, begins_token, join_token, tokens}
-use Rattle.rules.proofs.Logic.{test, yes-not, no-not}
+use Rattle.rules.proofs.Logic.{test}
+use Rattle.std.proofs.lemmas.Bool.{not_from_false, not_from_true}
 
 -- a byte of the kind belongs to the front; another one ends it
 pub front-more : (kind : ℕ → Bool) (b : ℕ) (t : List ℕ) → kind b ≡ true → front kind (b ∷ t) ≡ b ∷ front kind t
@@ -51,20 +52,20 @@ token-last b p = rw p
 
 token-short : (b c : ℕ) (t : List ℕ) → is_blank b ≡ false → is_blank c ≡ true → FirstToken (b ∷ c ∷ t)
 token-short b c t p q =
-    let e = ap (λ x. join_token b x (tokens (c ∷ t))) (no-not q) in
+    let e = ap (λ x. join_token b x (tokens (c ∷ t))) (not_from_true _ q) in
     cc (
       tokens-join b (c ∷ t) p,
-      front-more not_blank b (c ∷ t) (yes-not p),
-      front-end not_blank c t (no-not q),
-      after_more not_blank b (c ∷ t) (yes-not p),
-      after-end not_blank c t (no-not q),
+      front-more not_blank b (c ∷ t) (not_from_false _ p),
+      front-end not_blank c t (not_from_true _ q),
+      after_more not_blank b (c ∷ t) (not_from_false _ p),
+      after-end not_blank c t (not_from_true _ q),
     )
 
 token-longer : (b c : ℕ) (t : List ℕ) → is_blank b ≡ false → is_blank c ≡ false → FirstToken (c ∷ t) → FirstToken (b ∷ c ∷ t)
 token-longer b c t p q h =
-    let e = ap (λ x. join_token b x (tokens (c ∷ t))) (yes-not q) in
+    let e = ap (λ x. join_token b x (tokens (c ∷ t))) (not_from_false _ q) in
     let k = ap (join_token b true) h in
-    cc (tokens-join b (c ∷ t) p, front-more not_blank b (c ∷ t) (yes-not p), after_more not_blank b (c ∷ t) (yes-not p))
+    cc (tokens-join b (c ∷ t) p, front-more not_blank b (c ∷ t) (not_from_false _ p), after_more not_blank b (c ∷ t) (not_from_false _ p))
 
 -- so it does where the text begins with a token
 pub token-first : (b : ℕ) (t : List ℕ) → is_blank b ≡ false → FirstToken (b ∷ t)

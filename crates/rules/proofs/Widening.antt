@@ -10,7 +10,8 @@ use Rattle.rules.specs.declared.Row.{Row}
 use Rattle.rules.specs.Words.{holds, is_row, fixes, without}
 use Rattle.rules.specs.Search.{holds_some}
 use Rattle.rules.specs.Method.{widen_at}
-use Rattle.rules.proofs.Logic.{test, either, clash, or_cases, fails}
+use Rattle.rules.proofs.Logic.{test, either, clash}
+use Rattle.std.proofs.lemmas.Bool.{or_cases, false_from_ne_true}
 use Rattle.rules.proofs.Bits.{bit}
 use Rattle.rules.proofs.Rows.{without-holds, without-comm, without-fixes, without-keeps, without-row}
 use Rattle.rules.proofs.Orders.{has, IsOrder}
@@ -53,7 +54,7 @@ module _ (n : ℕ) (order : List ℕ) (o : IsOrder n order) (off : ℕ → Bool)
     widen-holds s = widen-ind (λ r. holds r s ≡ true) (λ v r w e q. without-holds v r s q) vs r w
 
     pub widen-misses : Misses n off r → Misses n off (widened vs r)
-    widen-misses = widen-ind (Misses n off) (λ v r w e q s l f. fails (λ h. clash f (some-no n order o off (without v r) (without-row n v r w) e s l h))) vs r w
+    widen-misses = widen-ind (Misses n off) (λ v r w e q s l f. false_from_ne_true _ (λ h. clash f (some-no n order o off (without v r) (without-row n v r w) e s l h))) vs r w
 
     -- What is held without v's literal is held so after further widening.
     widen-under : (v s : ℕ) → holds (without v r) s ≡ true → holds (without v (widened vs r)) s ≡ true

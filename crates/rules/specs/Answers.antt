@@ -1,9 +1,7 @@
 -- What a call answers: this paper's number and values for each case of each answer; and how the refusals of a call are judged.
 use mathlib.Core.{Bool.Bool, Bool.cond, List.List, List.[], List.◌∷◌, List.◌++◌}
-use Rattle.std.specs.Prelude.{ℕ, length, drop}
-use Rattle.rules.specs.{Words.one, declared.Refusal.Refusal, declared.ListAnswer.ListAnswer, declared.PartialAnswer.PartialAnswer}
-use Rattle.rules.specs.{declared.QueryAnswer.QueryAnswer, declared.PruneAnswer.PruneAnswer, declared.ValueAnswer.ValueAnswer}
-use Rattle.rules.specs.{declared.ReadAnswer.ReadAnswer, declared.WriteAnswer.WriteAnswer}
+use Rattle.std.specs.Prelude.{ℕ, length, drop, Result, Ok, Err, Option, Some, None}
+use Rattle.rules.specs.{Words.one, declared.Refusal.Refusal, declared.Setting.Setting}
 
 -- number: 0 for a result, else the refusal's. values: those of the result, and for refusal 6 the setting.
 pub record Reply : Type 0 where
@@ -33,34 +31,37 @@ refusal_reply Refusal.Clauses = refusal 13
 refusal_reply Refusal.OtherInputs = refusal 14
 refusal_reply Refusal.Room = refusal 15
 
-abbrev pub list_reply : ListAnswer → Reply
-list_reply (ListAnswer.Rows count) = answered (count ∷ [])
-list_reply (ListAnswer.Refused f) = refusal_reply f
+-- An answer is a result or a refusal. The pairs are a count and whether there are no more, and the inputs and a count.
+abbrev pub count_reply : Result ℕ Refusal → Reply
+count_reply (Ok count) = answered (count ∷ [])
+count_reply (Err f) = refusal_reply f
 
-abbrev pub partial_reply : PartialAnswer → Reply
-partial_reply (PartialAnswer.Rows count complete) = answered (count ∷ one complete ∷ [])
-partial_reply (PartialAnswer.Refused f) = refusal_reply f
+-- The count of a list's rows, of the rows that pruning keeps, and of a text's bytes.
+abbrev pub list_reply : Result ℕ Refusal → Reply
+list_reply = count_reply
 
-abbrev pub query_reply : QueryAnswer → Reply
-query_reply (QueryAnswer.Found s) = answered (s.0 ∷ [])
-query_reply QueryAnswer.Nothing = answered []
-query_reply (QueryAnswer.Refused f) = refusal_reply f
+abbrev pub prune_reply : Result ℕ Refusal → Reply
+prune_reply = count_reply
 
-abbrev pub prune_reply : PruneAnswer → Reply
-prune_reply (PruneAnswer.Kept count) = answered (count ∷ [])
-prune_reply (PruneAnswer.Refused f) = refusal_reply f
+abbrev pub write_reply : Result ℕ Refusal → Reply
+write_reply = count_reply
 
-abbrev pub value_reply : ValueAnswer → Reply
-value_reply (ValueAnswer.Value b) = answered (one b ∷ [])
-value_reply (ValueAnswer.Refused f) = refusal_reply f
+abbrev pub partial_reply : Result (ℕ × Bool) Refusal → Reply
+partial_reply (Ok (count, complete)) = answered (count ∷ one complete ∷ [])
+partial_reply (Err f) = refusal_reply f
 
-abbrev pub read_reply : ReadAnswer → Reply
-read_reply (ReadAnswer.Sheet inputs count) = answered (inputs ∷ count ∷ [])
-read_reply (ReadAnswer.Refused f) = refusal_reply f
+abbrev pub query_reply : Result (Option Setting) Refusal → Reply
+query_reply (Ok (Some s)) = answered (s.0 ∷ [])
+query_reply (Ok None) = answered []
+query_reply (Err f) = refusal_reply f
 
-abbrev pub write_reply : WriteAnswer → Reply
-write_reply (WriteAnswer.Length count) = answered (count ∷ [])
-write_reply (WriteAnswer.Refused f) = refusal_reply f
+abbrev pub value_reply : Result Bool Refusal → Reply
+value_reply (Ok b) = answered (one b ∷ [])
+value_reply (Err f) = refusal_reply f
+
+abbrev pub read_reply : Result (ℕ × ℕ) Refusal → Reply
+read_reply (Ok (inputs, count)) = answered (inputs ∷ count ∷ [])
+read_reply (Err f) = refusal_reply f
 
 -- A refusal, and whether its condition holds.
 pub record Check : Type 0 where

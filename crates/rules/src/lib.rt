@@ -2,16 +2,19 @@
 // What the calls mean stands in specs/, and what was promised of it in proofs/.
 #![tactic(auto)]
 
+mod inputs;
+mod order;
+
 ghost use Rattle.std.specs.Prelude.{◌≡◌, ◌-◌, ◌^◌, ◌≤◌};
-ghost use Rattle.rules.specs.Words.{max_inputs, full, without};
-ghost use Rattle.rules.specs.Sheets.{max_numbers, max_clauses};
-ghost use Rattle.rules.specs.Method.{max_rows};
-ghost use Rattle.rules.specs.Dimacs.{max_bytes};
+ghost use Rattle.rules.specs.Words.{max_inputs, is_inputs, fits, holds, is_one, is_row, full, at_zero, at_one, without, fixed_at};
 ghost use Rattle.rules.specs.Answers.{refusal_reply};
 ghost use Rattle.rules.specs.Calls.{first};
 
-// A variable's number, 1 up.
-#[derive(Clone, Copy)]
+pub use inputs::Inputs;
+pub use order::natural_order;
+
+// A variable's number, 1 up. It may be any number, as a literal's may; what is asked of the variables of n inputs asks it in its clause.
+#[derive(Clone, Copy, PartialEq, Eq)]
 pub struct Var(pub u32);
 
 impl Var {
@@ -22,18 +25,36 @@ impl Var {
     {
         1 << (self.0 - 1)
     }
+
+    // The variable is 1 in the word.
+    pub fn is_one(self, word: u32) -> bool
+        requires { (1 ≤ self.0) × (self.0 ≤ max_inputs) }
+        ensures { result ≡ is_one self.0 word }
+    {
+        (word >> (self.0 - 1)) % 2 == 1
+    }
 }
 
 // A place in the order, 0 up. Which variable stands there is the order's affair.
-#[derive(Clone, Copy)]
+#[derive(Clone, Copy, PartialEq, Eq)]
 pub struct Place(pub usize);
 
 // Bit i - 1 is variable i.
-#[derive(Clone, Copy)]
+#[derive(Clone, Copy, PartialEq, Eq)]
 pub struct Setting(pub u32);
 
+impl Setting {
+    // The setting has no bits from n up.
+    pub fn fits(self, n: Inputs) -> bool
+        ensures { result ≡ fits n.count self.0 }
+    {
+        self.0 < 1 << n.count
+    }
+}
+
 // Fixes the variables of `care` to their bits of `value`, and leaves the others dashed.
-#[derive(Clone, Copy)]
+#[derive(Clone, Copy, PartialEq, Eq)]
+#[repr(C)]
 pub struct Row {
     pub care: u32,
     pub value: u32,
@@ -42,10 +63,25 @@ pub struct Row {
 impl Row {
     pub const MAX_INPUTS: u32 = 24;
 
-    pub fn max_inputs() -> u32
-        ensures { result ≡ max_inputs }
+    // n is a number of inputs.
+    pub fn is_inputs(n: u32) -> bool
+        ensures { result ≡ is_inputs n }
     {
-        Row::MAX_INPUTS
+        1 <= n && n <= Row::MAX_INPUTS
+    }
+
+    // A row of n inputs: no care bits from n up, and value ones only under care ones.
+    pub fn is_row(self, n: Inputs) -> bool
+        ensures { result ≡ is_row n.count self }
+    {
+        self.care < 1 << n.count && self.value & self.care == self.value
+    }
+
+    // The row agrees with the setting on the variables that it cares for.
+    pub fn holds(self, s: Setting) -> bool
+        ensures { result ≡ holds self s.0 }
+    {
+        s.0 & self.care == self.value
     }
 
     // The row without literals: it holds every setting.
@@ -56,14 +92,44 @@ impl Row {
     }
 
     // The row of all n literals of a setting.
-    pub fn full(n: u32, s: Setting) -> Row
-        requires { n ≤ max_inputs }
-        ensures { result ≡ full n s.0 }
+    pub fn full(n: Inputs, s: Setting) -> Row
+        ensures { result ≡ full n.count s.0 }
     {
         Row {
-            care: (1 << n) - 1,
+            care: (1 << n.count) - 1,
             value: s.0,
         }
+    }
+
+    // The row with the variable fixed at 0.
+    pub fn at_zero(self, v: Var) -> Row
+        requires { (1 ≤ v.0) × (v.0 ≤ max_inputs) }
+        ensures { result ≡ at_zero v.0 self }
+    {
+        Row {
+            care: self.care | v.bit(),
+            value: self.value,
+        }
+    }
+
+    // The row with the variable fixed at 1.
+    pub fn at_one(self, v: Var) -> Row
+        requires { (1 ≤ v.0) × (v.0 ≤ max_inputs) }
+        ensures { result ≡ at_one v.0 self }
+    {
+        let bit = v.bit();
+        Row {
+            care: self.care | bit,
+            value: self.value | bit,
+        }
+    }
+
+    // The row with the variable fixed at 1 or at 0.
+    pub fn fixed_at(self, one: bool, v: Var) -> Row
+        requires { (1 ≤ v.0) × (v.0 ≤ max_inputs) }
+        ensures { result ≡ fixed_at one v.0 self }
+    {
+        if one { self.at_one(v) } else { self.at_zero(v) }
     }
 
     // The row without the literal of v.
@@ -72,11 +138,9 @@ impl Row {
         ensures { result ≡ without v.0 self }
     {
         let bit = v.bit();
-        let care = self.care;
-        let value = self.value;
         Row {
-            care: care - (care & bit),
-            value: value - (value & bit),
+            care: self.care - (self.care & bit),
+            value: self.value - (self.value & bit),
         }
     }
 }
@@ -89,18 +153,6 @@ impl Sheet {
     pub const MAX_NUMBERS: usize = 8192;
 
     pub const MAX_CLAUSES: usize = 1024;
-
-    pub fn max_numbers() -> usize
-        ensures { result ≡ max_numbers }
-    {
-        Sheet::MAX_NUMBERS
-    }
-
-    pub fn max_clauses() -> usize
-        ensures { result ≡ max_clauses }
-    {
-        Sheet::MAX_CLAUSES
-    }
 }
 
 // Rows in two runs of words, care and value.
@@ -109,12 +161,6 @@ pub struct List;
 
 impl List {
     pub const MAX_ROWS: usize = 256;
-
-    pub fn max_rows() -> usize
-        ensures { result ≡ max_rows }
-    {
-        List::MAX_ROWS
-    }
 }
 
 // A run of bytes to be read as a sheet.
@@ -123,16 +169,10 @@ pub struct Text;
 
 impl Text {
     pub const MAX_BYTES: usize = 32768;
-
-    pub fn max_bytes() -> usize
-        ensures { result ≡ max_bytes }
-    {
-        Text::MAX_BYTES
-    }
 }
 
 // Why a call gives no result, in the order of the refusals' numbers.
-#[derive(Clone, Copy)]
+#[derive(Clone, Copy, PartialEq, Eq)]
 pub enum Refusal {
     Inputs,
     Order,
@@ -178,59 +218,30 @@ impl Refusal {
     pub fn payload(self) -> u32
         ensures { result ≡ first (refusal_reply self).values }
     {
-        if let Refusal::Collision(s) = self {
-            return s.0;
+        match self {
+            Refusal::Collision(s) => s.0,
+            _ => 0,
         }
-        0
     }
 }
 
-// The count of a whole list's rows.
-#[derive(Clone, Copy)]
-pub enum ListAnswer {
-    Rows(usize),
-    Refused(Refusal),
-}
+// The count of a whole list's rows, or the refusal.
+pub type ListAnswer = Result<usize, Refusal>;
 
-// The count of the rows given, and whether generation has no more.
-#[derive(Clone, Copy)]
-pub enum PartialAnswer {
-    Rows(usize, bool),
-    Refused(Refusal),
-}
+// The count of the rows given and whether generation has no more, or the refusal.
+pub type PartialAnswer = Result<(usize, bool), Refusal>;
 
-// The smallest setting asked for; finding none is an ordinary answer.
-#[derive(Clone, Copy)]
-pub enum QueryAnswer {
-    Found(Setting),
-    Nothing,
-    Refused(Refusal),
-}
+// The smallest setting asked for, or the refusal; finding none is an ordinary answer.
+pub type QueryAnswer = Result<Option<Setting>, Refusal>;
 
-// The count of a given list's rows that stay.
-#[derive(Clone, Copy)]
-pub enum PruneAnswer {
-    Kept(usize),
-    Refused(Refusal),
-}
+// The count of a given list's rows that stay, or the refusal.
+pub type PruneAnswer = Result<usize, Refusal>;
 
-// A list's value at a setting: whether some row holds it.
-#[derive(Clone, Copy)]
-pub enum ValueAnswer {
-    Value(bool),
-    Refused(Refusal),
-}
+// A list's value at a setting, whether some row holds it, or the refusal.
+pub type ValueAnswer = Result<bool, Refusal>;
 
-// The inputs that a text's header names, and the count of its numbers.
-#[derive(Clone, Copy)]
-pub enum ReadAnswer {
-    Sheet(u32, usize),
-    Refused(Refusal),
-}
+// The inputs that a text's header names and the count of its numbers, or the refusal.
+pub type ReadAnswer = Result<(u32, usize), Refusal>;
 
-// The length of the text written.
-#[derive(Clone, Copy)]
-pub enum WriteAnswer {
-    Length(usize),
-    Refused(Refusal),
-}
+// The length of the text written, or the refusal.
+pub type WriteAnswer = Result<usize, Refusal>;

@@ -10,11 +10,11 @@ use lib.Dec.{eqb}
 use lib.IntN.{ℤ}
 use lib.ListN.{length, get_or, drop}
 use Rattle.rules.specs.declared.Row.{Row}
-use Rattle.rules.specs.Words.{is_order, is_one, with_zero, with_one, fixes, dashes, at_one, without}
+use Rattle.rules.specs.Words.{is_order, is_one, with_zero, with_one, fixes, dashes, at_one, without, fixed_at}
 use Rattle.rules.specs.Search.{smallest, not_below}
 use Rattle.rules.proofs.Logic.{test}
 use Rattle.rules.proofs.Bits.{bit-set, bit-clear, bit-ext}
-use Rattle.rules.proofs.Fixed.{Under, row_under, own-bit, fixed_at}
+use Rattle.rules.proofs.Fixed.{Under, row_under, own-bit}
 use Rattle.rules.proofs.From.{smallest_from}
 use Rattle.search.specs.Question.{Asked, Ahead, followed, above_at}
 use Rattle.search.proofs.Steps.{from_end, from_one, from_zero, from-above, from_first}
@@ -35,15 +35,6 @@ clear-same v w f = bit-ext (λ i. rw (bit-clear (v - 1) i w) (test (eqb (v - 1) 
 without-fixed : (b : Bool) (v : ℕ) (r : Row) → Under r → fixes r v ≡ false → without v (fixed_at b v r) ≡ r
 without-fixed true v r u f = λ i. record { care = clear-set v r.care f i; value = clear-set v r.value (u (v - 1) f) i }
 without-fixed false v r u f = λ i. record { care = clear-set v r.care f i; value = clear-same v r.value (u (v - 1) f) i }
-
--- above the start at a place: never where the start has 1
-module _ (P : ℕ → Bool) (order : List ℕ) (start place v : ℕ) (e : v ≡ get_or order place 0) (r : Row) where
-  pub not-above : is_one v start ≡ true → none ≡ above_at P order start place r
-  not-above b = rw (← e, b)
-
-  pub is-above : is_one v start ≡ false → (high : Row) → high ≡ at_one v r → (o : Option ℕ) → o ≡ smallest P (drop (place + 1) order) high
-      → o ≡ above_at P order start place r
-  is-above b high d o f = f ∙ rw (← e, b, d)
 
 module _ (order : List ℕ) (start : ℕ) where
   pub followed-none : followed order start 0 ≡ dashes

@@ -10,16 +10,19 @@ use lib.IntN.{ℤ}
 use lib.ListN.{length, get_or, drop}
 use borrow.Author.Tests.{ltb-true, ltb-false}
 use Rattle.rules.specs.declared.Row.{Row}
-use Rattle.rules.specs.Words.{is_one, holds, is_row, at_zero, at_one}
+use Rattle.rules.specs.Words.{is_one, holds, is_row, at_zero, at_one, fixed_at}
 use Rattle.rules.specs.Search.{smallest}
 use Rattle.rules.proofs.Logic.{test}
 use Rattle.rules.proofs.Bits.{bit, bit_high, bit-ext}
 use Rattle.rules.proofs.Orders.{has, is-order}
-use Rattle.rules.proofs.Fixed.{row_under, row-high, held-value, fixed_at, fixed-holds}
+use Rattle.rules.proofs.Fixed.{row_under, row-high, held-value, fixed-holds}
 use Rattle.rules.proofs.Rows.{dashes-row, at_zero-row, at_one-row}
 use Rattle.rules.proofs.From.{free-first}
+use Rattle.search.specs.declared.question.Question.{Question}
 use Rattle.search.specs.Question.{Asked, Ahead, Met, Lowers}
+use Rattle.search.specs.Good.{good_of}
 use Rattle.search.proofs.Places.{first-left, all-passed, none_passed, passed-next, free-next}
+use Rattle.search.proofs.Swift.{swift-met, swift-none}
 use Rattle.search.proofs.Steps.{Dashes, at-end, zero-found, with-one, is-dashes, dashes-free}
 
 module _ (order : List ℕ) (place : ℕ) {a b : List ℤ} {rows : List Row} (q : Asked order a b rows) (r : Row) (h : Ahead order place r) where
@@ -71,6 +74,38 @@ module _ (order : List ℕ) (place : ℕ) {a b : List ℤ} {rows : List Row} (q 
         met = m;
         same = λ u f. with-one P order place r v k e is_free low low-is high high_is (some u) z f;
       }
+
+-- what the swift order finds, or does not find
+module _ (q : Question) (place : ℕ) (r : Row) (h : Ahead q.order.now place r) where
+  pub first-met : (t : ℕ) → some t ≡ smallest (good_of q) q.swift.now r → Met (good_of q) (length q.order.now) r t
+  first-met t f = swift-met q.asked q.swift.now q.same (good_of q) r h.formed t (sym f)
+
+  pub first-none : none ≡ smallest (good_of q) q.swift.now r → none ≡ smallest (good_of q) (drop place q.order.now) r
+  first-none f = sym (swift-none q.asked q.swift.now q.same (good_of q) r h.formed place (sym f))
+
+  module _ (v : ℕ) (k : place < length q.order.now) (e : v ≡ get_or q.order.now place 0) (low : Row) (low-is : low ≡ at_zero v r) where
+    low-ahead : Ahead q.order.now (place + 1) low
+    low-ahead = ahead-next q.order.now place q.asked r h v k e false low low-is
+
+    -- the setting met has 0
+    pub keeps-zero : (t : ℕ) → false ≡ is_one v t → Met (good_of q) (length q.order.now) r t → Lowers (good_of q) q.order.now place r low t
+    keeps-zero t z m =
+        lowers-zero q.order.now place q.asked r h v k e (good_of q) low low-is t
+        (met_next q.order.now place q.asked r h v k e false low low-is (good_of q) t (sym z) m)
+
+    -- it has 1, and another good one has 0
+    pub takes-zero : (t : ℕ) → some t ≡ smallest (good_of q) q.swift.now low → Lowers (good_of q) q.order.now place r low t
+    takes-zero t f =
+        lowers-zero q.order.now place q.asked r h v k e (good_of q) low low-is t
+        (swift-met q.asked q.swift.now q.same (good_of q) low low-ahead.formed t (sym f))
+
+    -- none has
+    pub keeps-one : none ≡ smallest (good_of q) q.swift.now low → (high : Row) → high ≡ at_one v r → (t : ℕ) → true ≡ is_one v t
+        → Met (good_of q) (length q.order.now) r t → Lowers (good_of q) q.order.now place r high t
+    keeps-one f high high_is t z m =
+        lowers-one q.order.now place q.asked r h v k e (good_of q) low low-is
+        (swift-none q.asked q.swift.now q.same (good_of q) low low-ahead.formed (place + 1) (sym f)) high high_is t
+        (met_next q.order.now place q.asked r h v k e true high high_is (good_of q) t (sym z) m)
 
 -- before the first place
 pub ahead-first : {order : List ℕ} {a b : List ℤ} {rows : List Row} → Asked order a b rows → (r : Row) → Dashes r → Ahead order 0 r

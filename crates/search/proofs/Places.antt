@@ -11,23 +11,24 @@ use lib.ListN.{length, get_or, drop, drop_of_length-le}
 use lib.Seq.{drop-cons}
 use borrow.Author.Tests.{leb-true, le-leb}
 use Rattle.rules.specs.declared.Row.{Row}
-use Rattle.rules.specs.Words.{max_inputs, with_one, fixes}
+use Rattle.rules.specs.Words.{max_inputs, with_one, fixes, fixed_at}
 use Rattle.rules.specs.Sheets.{variable, in_reach}
-use Rattle.rules.proofs.Logic.{test, clash, and_both, and-join, or_left, or_right}
+use Rattle.rules.proofs.Logic.{test, clash}
+use Rattle.std.proofs.lemmas.Bool.{and_parts, and_from, or_left, or_right}
 use Rattle.rules.proofs.Bits.{bit, bit-set}
 use Rattle.rules.proofs.Orders.{has, Distinct, is-order}
-use Rattle.rules.proofs.Fixed.{own-bit, fixed_at}
+use Rattle.rules.proofs.Fixed.{own-bit}
 use Rattle.rules.proofs.From.{Free, free-rest}
 use Rattle.search.specs.Question.{Asked, Passed}
 
 -- numbers in reach of fewer variables are in reach of more
-reach-more : (n m : ℕ) → n ≤ m → (zs : List ℤ) → in_reach n zs ≡ true → in_reach m zs ≡ true
+pub reach-more : (n m : ℕ) → n ≤ m → (zs : List ℤ) → in_reach n zs ≡ true → in_reach m zs ≡ true
 unfolding in_reach
 reach-more n m l [] h = refl
 reach-more n m l (z ∷ zs) h =
-    let p = and_both (leb (variable z) n) (in_reach n zs) h in
+    let p = and_parts (leb (variable z) n) (in_reach n zs) h in
     let k = leb-true (variable z) n p.0 in
-    and-join (le-leb (variable z) m (omega arith)) (reach-more n m l zs p.1)
+    and_from _ _ (le-leb (variable z) m (omega arith)) (reach-more n m l zs p.1)
 
 distinct-drop : (k : ℕ) (vs : List ℕ) → Distinct vs → Distinct (drop k vs)
 distinct-drop zero vs d = d
@@ -35,12 +36,6 @@ distinct-drop (suc k) [] d = d
 distinct-drop (suc k) (v ∷ vs) d = distinct-drop k vs d.1
 
 module _ {order : List ℕ} {a b : List ℤ} {rows : List Row} (q : Asked order a b rows) where
-  pub reaches-a : in_reach max_inputs a ≡ true
-  reaches-a = reach-more (length order) max_inputs q.size a q.reach-a
-
-  pub reaches-b : in_reach max_inputs b ≡ true
-  reaches-b = reach-more (length order) max_inputs q.size b q.reach-b
-
   -- what stands at a place is a variable
   pub is-variable : (place v : ℕ) → place < length order → v ≡ get_or order place 0 → (1 ≤ v) × (v ≤ max_inputs)
   is-variable place v h e =
@@ -80,8 +75,8 @@ module _ (order : List ℕ) (place : ℕ) where
     -- and where it is fixed now
     set-passed : (r : Row) → Passed order place r → (i : ℕ) → i < length order → has i (drop (place + 1) order) ≡ false → bit i (with_one v r.care) ≡ true
     set-passed r p i l n = bit-set (v - 1) i r.care ∙ test (eqb (v - 1) i)
-        (λ d. or_left (bit i r.care) d)
-        (λ d. or_right (eqb (v - 1) i) (p i l (still-passed i d n)))
+        (λ d. or_left _ (bit i r.care) d)
+        (λ d. or_right (eqb (v - 1) i) _ (p i l (still-passed i d n)))
 
     fixed-passed : (r : Row) → Passed order place r → (b : Bool) → Passed order (place + 1) (fixed_at b v r)
     fixed-passed r p true = set-passed r p

@@ -2,18 +2,19 @@
 use mathlib.Core.Path.{◌≡◌, refl, sym, ap, subst, ◌∙◌}
 use mathlib.Core.Bool.{Bool, true, false}
 use mathlib.Core.List.{List}
+use mathlib.Core.Option.{Option, none, some}
 use Prim.Native.Nat.{ℕ, zero, suc, ◌+◌, ◌-◌, ◌≤◌, ◌<◌}
 use native.Mathlib.Omega.{arith}
 use lib.Dec.{ltb}
 use lib.ListN.{length, get_or, drop}
 use borrow.Author.Tests.{ltb-true, ltb-false}
 use Rattle.rules.specs.declared.Row.{Row}
-use Rattle.rules.specs.Words.{is_one}
+use Rattle.rules.specs.Words.{is_one, at_zero, at_one, fixed_at}
 use Rattle.rules.specs.Search.{smallest}
 use Rattle.rules.proofs.Logic.{test}
 use Rattle.search.specs.Question.{Passed, Skips}
-use Rattle.search.proofs.Places.{passed-fixed}
-use Rattle.search.proofs.Steps.{passes}
+use Rattle.search.proofs.Places.{passed-fixed, passed-next}
+use Rattle.search.proofs.Steps.{passes, at-end, zero-found, with-one}
 
 -- the variables from a place up to another are fixed
 abbrev Fixed : List ℕ → ℕ → ℕ → ℕ → Type 0
@@ -40,8 +41,12 @@ module _ (order : List ℕ) (care place : ℕ) where
     pub passing-stops : (v : ℕ) → v ≡ get_or order at 0 → is_one v care ≡ false → Skips order place care at
     passing-stops v e f = record { onward = h.0; fixed = h.1; stops = λ l. ap (λ (w : ℕ). is_one w care) (sym e) ∙ f }
 
-    pub passing-end : length order ≤ at → Skips order place care at
-    passing-end l = record { onward = h.0; fixed = h.1; stops = λ m. let z : ⊥ = omega arith in absurd z }
+    pub passing-end : place ≤ length order → length order ≤ at → Skips order place care (length order)
+    passing-end g l = record {
+      onward = g;
+      fixed = λ k m n. h.1 k m (omega arith);
+      stops = λ m. let z : ⊥ = omega arith in absurd z;
+    }
 
 -- one place after another
 module _ (order : List ℕ) (r : Row) where
@@ -64,11 +69,27 @@ module _ (order : List ℕ) (r : Row) where
     distance : later ≡ place + (later - place)
     distance = let o = s.onward in omega arith
 
-    pub skip-same : (P : ℕ → Bool) → smallest P (drop place order) r ≡ smallest P (drop later order) r
+    skip-same : (P : ℕ → Bool) → smallest P (drop place order) r ≡ smallest P (drop later order) r
     skip-same P = same_by P (later - place) place later distance s.fixed
 
     pub skip-passed : Passed order place r → Passed order later r
     skip-passed p = passed-by (later - place) place later distance s.fixed p
 
-    pub skip-stops : later < length order → (v : ℕ) → v ≡ get_or order later 0 → is_one v r.care ≡ false
+    skip-stops : later < length order → (v : ℕ) → v ≡ get_or order later 0 → is_one v r.care ≡ false
     skip-stops l v e = ap (λ (w : ℕ). is_one w r.care) e ∙ s.stops l
+
+    -- a level of the search: after the last place, or at the variable of the later one
+    pub level-end : (P : ℕ → Bool) → length order ≤ later → P r.value ≡ true → some r.value ≡ smallest P (drop place order) r
+    level-end P l p = at-end P order later r l p ∙ sym (skip-same P)
+
+    module _ (l : later < length order) (v : ℕ) (e : v ≡ get_or order later 0) where
+      pub level-passed : Passed order place r → (b : Bool) (next : Row) → next ≡ fixed_at b v r → Passed order (later + 1) next
+      level-passed p b next d = passed-next order later v l e r (skip-passed p) b next d
+
+      module _ (P : ℕ → Bool) (low : Row) (low-is : low ≡ at_zero v r) where
+        pub level-zero : (t : ℕ) → some t ≡ smallest P (drop (later + 1) order) low → some t ≡ smallest P (drop place order) r
+        level-zero t z = zero-found P order later r v l e (skip-stops l v e) low low-is t z ∙ sym (skip-same P)
+
+        pub level-one : none ≡ smallest P (drop (later + 1) order) low → (high : Row) → high ≡ at_one v r → (o : Option ℕ)
+            → o ≡ smallest P (drop (later + 1) order) high → o ≡ smallest P (drop place order) r
+        level-one z high high_is o f = with-one P order later r v l e (skip-stops l v e) low low-is high high_is o (sym z) f ∙ sym (skip-same P)

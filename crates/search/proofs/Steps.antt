@@ -6,16 +6,12 @@ use mathlib.Core.Option.{Option, none, some}
 use Prim.Native.Nat.{ℕ, ◌+◌, ◌≤◌, ◌<◌}
 use lib.ListN.{length, get_or, drop, drop_of_length-le}
 use Rattle.rules.specs.declared.Row.{Row}
-use Rattle.rules.specs.declared.Setting.{Setting}
 use Rattle.rules.specs.Words.{is_order, is_one, fixes, dashes, at_zero, at_one}
 use Rattle.rules.specs.Search.{or_else, smallest, not_below}
 use Rattle.rules.proofs.Bits.{bit, bit-zero}
 use Rattle.rules.proofs.Orders.{is-order}
 use Rattle.rules.proofs.From.{Free, smallest_from, from_is}
 use Rattle.rules.proofs.Reach.{smallest-pass, smallest-try}
-use Rattle.search.specs.declared.Found.{Found}
-use Rattle.search.specs.declared.Found.TheVariants.{At}
-use Rattle.search.specs.Question.{found_as}
 use Rattle.search.proofs.Places.{first-left}
 
 module _ (P : ℕ → Bool) (order : List ℕ) (place : ℕ) (r : Row) where
@@ -33,12 +29,6 @@ module _ (P : ℕ → Bool) (order : List ℕ) (place : ℕ) (r : Row) where
 
     -- what is found with 0 is the answer; if nothing is, what is found with 1
     module _ (f : fixes r v ≡ false) (low : Row) (low-is : low ≡ at_zero v r) where
-      pub with-zero : (found : Found) (s : Setting) → found_as found ≡ smallest P (drop (place + 1) order) low → found ≡ At s
-          → some s.0 ≡ smallest P (drop place order) r
-      with-zero found s z e =
-          let z' : found_as found ≡ smallest P (drop (place + 1) order) (at_zero v r) = z ∙ ap (smallest P (drop (place + 1) order)) low-is in
-          sym (tries f ∙ rw (← z', e))
-
       pub zero-found : (t : ℕ) → some t ≡ smallest P (drop (place + 1) order) low → some t ≡ smallest P (drop place order) r
       zero-found t z = sym (tries f ∙ rw (← low-is, ← z))
 

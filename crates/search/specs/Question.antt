@@ -1,18 +1,17 @@
 -- The question: the smallest setting of a row that satisfies two sheets and lies in none of the kept rows.
 use Rattle.std.specs.Prelude.{◌≡◌, Bool, true, false, not, cond, ◌&&◌, ◌||◌, List, [], ◌∷◌, ℕ, zero, suc, ◌+◌, ◌^◌, ◌<◌, ◌≤◌, eqb, ℤ, length, get_or, drop}
+use Rattle.std.specs.Prelude.{Some, None, Option as Maybe}
 use Rattle.std.proofs.Math.Option.{Option, none, some}
 use Rattle.std.specs.Int.Bits.{bit_and}
 use Rattle.rules.specs.declared.Row.{Row}
-use Rattle.rules.specs.Words.{max_inputs, is_order, fits, is_one, holds, is_row, dashes, at_one, in_some}
+use Rattle.rules.specs.declared.Setting.{Setting}
+use Rattle.rules.specs.Words.{max_inputs, is_order, fits, is_one, holds, is_row, dashes, at_one, in_some, fixed_at}
 use Rattle.rules.specs.Sheets.{satisfies, every_clause, in_reach}
 use Rattle.rules.specs.Search.{smallest}
 use Rattle.rules.proofs.Bits.{bit}
 use Rattle.rules.proofs.Orders.{has}
-use Rattle.rules.proofs.Fixed.{fixed_at}
 use Rattle.rules.proofs.From.{Free}
 use Rattle.sheets.specs.Open.{is_open}
-use Rattle.search.specs.declared.Found.{Found}
-use Rattle.search.specs.declared.Found.TheVariants.{At, Nothing}
 
 -- the setting satisfies both sheets and lies in none of the rows
 unfoldable pub good : List ℤ → List ℤ → List Row → ℕ → Bool
@@ -31,9 +30,9 @@ unfoldable pub live : List ℤ → List ℤ → List Row → Row → Bool
 live a b rows r = every_clause (is_open r) false a && (every_clause (is_open r) false b && not (covers_some r rows))
 
 -- what was found
-abbrev pub found_as : Found → Option ℕ
-found_as (At s) = some s.0
-found_as Nothing = none
+abbrev pub found_as : Maybe Setting → Option ℕ
+found_as (Some s) = some s.0
+found_as None = none
 
 -- no row cares for a variable above n
 unfoldable pub cares_within : ℕ → List Row → Bool

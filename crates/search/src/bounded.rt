@@ -1,100 +1,79 @@
 // The search from a start on: a setting not below the start is the start, or follows it up to a place where it has 1 and the start
 // has 0. The longer it follows, the smaller it is.
-ghost use Rattle.std.specs.Prelude.{◌≡◌, true, ◌≤◌, ◌<◌, length};
-ghost use Rattle.rules.specs.Words.{max_inputs, is_order, dashes};
+ghost use Rattle.std.specs.Prelude.{◌≡◌, ◌<◌, length};
+ghost use Rattle.rules.specs.Words.{dashes};
 ghost use Rattle.rules.specs.Search.{smallest, not_below};
 ghost use Rattle.sheets.specs.Numbers.{numbers_of};
-ghost use Rattle.sheets.specs.Barred.{rows_of};
 ghost use Rattle.search.specs.Question.{good, found_as, Asked, Ahead, followed, above_at};
+ghost use Rattle.search.specs.Good.{good_of};
 
-use crate::Found;
+use crate::Question;
 use crate::lower::first;
-use crate::step::{at_one, at_value, var_at};
-use rules::{Place, Row, Setting};
-use sheets::is_one;
+use crate::step::var_at;
+use rules::{Place, Row, Setting, Var};
 use swift::swift_order;
 
 // The row that fixes every variable at the start's value.
-fn follow(order: &[u32], start: Setting) -> Row
-    requires order_value { is_order (length order.now) order.now ≡ true }
-    requires order_len_bound { length order.now ≤ max_inputs }
-    ensures { result ≡ followed order.now start.0 (length order.now) }
+#[tactic(auto, using(crate::proofs::Known::order_variable))]
+fn follow(q: &Question, start: Setting) -> Row
+    ensures { result ≡ followed q.now.order.now start.0 (length q.now.order.now) }
 {
-    let from = start.0;
     let mut row = Row::dashes();
-    let mut at = 0;
-    while at < order.len() {
-        let v = var_at(order, Place(at));
-        row = at_value(row, v, from);
-        at += 1;
+    for v in q.order {
+        let v = Var(*v);
+        row = row.fixed_at(v.is_one(start.0), v);
     }
     row
 }
 
 // Of a row that fixes the variables before the place alone, the smallest good setting with 1 at the place; none where the start has 1.
-fn above(
-    order: &[u32],
-    swift: &[u32],
-    place: Place,
-    row: Row,
-    start: Setting,
-    a: &[u8],
-    b: &[u8],
-    rows: &[u32],
-) -> Found
-    requires asked { Asked order.now (numbers_of a.now) (numbers_of b.now) (rows_of rows.now) }
-    requires swift_value { is_order (length order.now) swift.now ≡ true }
-    requires ahead { Ahead order.now place.0 row }
-    requires place_in_bounds { place.0 < length order.now }
-    ensures { found_as result ≡ above_at (good (numbers_of a.now) (numbers_of b.now) (rows_of rows.now)) order.now start.0 place.0 row }
+#[tactic(auto, using(crate::proofs::Known::order_variable))]
+fn above(q: &Question, place: Place, row: Row, start: Setting) -> Option<Setting>
+    requires ahead { Ahead q.now.order.now place.0 row }
+    requires place_in_bounds { place.0 < length q.now.order.now }
+    ensures { found_as result ≡ above_at (good_of q.now) q.now.order.now start.0 place.0 row }
 {
-    let from = start.0;
-    let at = place.0;
-    let v = var_at(order, place);
-    if is_one(v, from) {
-        return Found::Nothing;
+    let v = var_at(q.order, place);
+    if v.is_one(start.0) {
+        return None;
     }
-    let high = at_one(row, v);
-    first(order, swift, Place(at + 1), high, a, b, rows)
+    first(q, Place(place.0 + 1), row.at_one(v))
 }
 
 // The smallest good setting that is not below the start: the start, or the one above it that follows it longest.
-pub fn find_from(
-    order: &[u32],
-    swift: &[u32],
-    start: Setting,
-    a: &[u8],
-    b: &[u8],
-    rows: &[u32],
-) -> Found
-    requires asked { Asked order.now (numbers_of a.now) (numbers_of b.now) (rows_of rows.now) }
-    requires swift_value { is_order (length order.now) swift.now ≡ true }
-    ensures { found_as result ≡ smallest (not_below order.now start.0 (good (numbers_of a.now) (numbers_of b.now) (rows_of rows.now))) order.now dashes }
+#[tactic(auto, using(crate::proofs::Known::order_variable))]
+pub fn find_from(q: &Question, start: Setting) -> Option<Setting>
+    ensures { found_as result ≡ smallest (not_below q.now.order.now start.0 (good_of q.now)) q.now.order.now dashes }
 {
-    let mut at = order.len();
-    let mut row = follow(order, start);
-    let own = first(order, swift, Place(at), row, a, b, rows);
-    if let Found::At(s) = own {
-        return Found::At(s);
+    let n = q.order.len();
+    let mut row = follow(q, start);
+    if let Some(s) = first(q, Place(n), row) {
+        return Some(s);
     }
-    while 0 < at {
-        at -= 1;
-        row = row.without(var_at(order, Place(at)));
-        let f = above(order, swift, Place(at), row, start, a, b, rows);
-        if let Found::At(s) = f {
-            return Found::At(s);
+    // By place, since what is known of the row is told by the place up to which it is fixed.
+    for at in (0..n).rev() {
+        row = row.without(var_at(q.order, Place(at)));
+        if let Some(s) = above(q, Place(at), row, start) {
+            return Some(s);
         }
     }
-    Found::Nothing
+    None
 }
 
 // The same, in a swift order of its own.
-pub fn seek_from(order: &[u32], start: Setting, a: &[u8], b: &[u8], rows: &[u32]) -> Found
-    requires { Asked order.now (numbers_of a.now) (numbers_of b.now) (rows_of rows.now) }
-    ensures { found_as result ≡ smallest (not_below order.now start.0 (good (numbers_of a.now) (numbers_of b.now) (rows_of rows.now))) order.now dashes }
+pub fn seek_from(order: &[u32], start: Setting, a: &[u8], b: &[u8], rows: &[Row]) -> Option<Setting>
+    requires { Asked order.now (numbers_of a.now) (numbers_of b.now) rows.now }
+    ensures { found_as result ≡ smallest (not_below order.now start.0 (good (numbers_of a.now) (numbers_of b.now) rows.now)) order.now dashes }
 {
-    let mut swift: [u32; Row::MAX_INPUTS as usize] = [0; Row::MAX_INPUTS as usize];
-    let n = order.len();
-    swift_order(order, rows, a, b, &mut swift[..n]);
-    find_from(order, &swift[..n], start, a, b, rows)
+    let mut swift = [0; Row::MAX_INPUTS as usize];
+    let swift = &mut swift[..order.len()];
+    swift_order(order, rows, a, b, swift);
+    let q = Question {
+        order,
+        swift,
+        a,
+        b,
+        rows,
+    };
+    find_from(&q, start)
 }

@@ -6,19 +6,14 @@ mod bounded;
 mod calls;
 mod cut;
 mod lower;
+mod question;
 mod smallest;
 mod step;
 
-use rules::Setting;
+// What is asked.
+pub use question::Question;
 
-// The setting that was asked for, or none.
-#[derive(Clone, Copy)]
-pub enum Found {
-    At(Setting),
-    Nothing,
-}
-
-// In a row; from a start on, and from the first setting on, with a swift order to ask in.
+// In a row; from a start on, and from the first setting on.
 pub use bounded::find_from;
 pub use lower::find_first;
 pub use smallest::find;
@@ -28,6 +23,3 @@ pub use step::var_at;
 
 // The call.
 pub use calls::query;
-
-// What calls test of their inputs.
-pub use calls::{fits, is_inputs};

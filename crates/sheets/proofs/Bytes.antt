@@ -1,16 +1,17 @@
--- Bytes as words, four at a time.
+-- Bytes as words and numbers, four at a time.
 use mathlib.Core.Path.{◌≡◌, refl, sym, ap, ◌∙◌}
-use mathlib.Core.Bool.{Bool, ◌&&◌}
-use mathlib.Core.List.{List, [], ◌∷◌}
-use Prim.Native.Nat.{ℕ, zero, suc, ◌+◌, ◌*◌, ◌/◌, ◌%◌, ◌≤◌, ◌<◌}
+use mathlib.Core.List.{List, [], ◌∷◌, map, map-map}
+use Prim.Native.Nat.{ℕ, suc, ◌+◌, ◌*◌, ◌/◌, ◌<◌}
 use native.Mathlib.Omega.{arith}
-use lib.IntN.{pos}
-use lib.ListN.{length, get_or, length-map, get_or-map}
-use mir.Syntax.{w32}
+use lib.IntN.{ℤ, pos}
+use lib.ListN.{length, get_or, length-map}
 use mir.Val.{to_z}
-use borrow.Author.Tests.{eq-eqb}
-use Rattle.rules.specs.Calls.{words_of, none_left_over}
-use Rattle.sheets.specs.Numbers.{word_from, numbers_of}
+use mir.Syntax.{w32}
+use Rattle.std.specs.Int.{from_le_bytes}
+use Rattle.std.specs.Simd.{first_chunks}
+use Rattle.std.proofs.lemmas.List.{get_or-map}
+use Rattle.rules.specs.Calls.{words_of}
+use Rattle.sheets.specs.Numbers.{numbers_of}
 
 pub words-length : (bs : List ℕ) → length (words_of bs) ≡ length bs / 4
 unfolding words_of
@@ -20,41 +21,33 @@ words-length (a ∷ b ∷ []) = refl
 words-length (a ∷ b ∷ c ∷ []) = refl
 words-length (a ∷ b ∷ c ∷ d ∷ bs) = let e = words-length bs in omega arith
 
--- past the first four bytes
-four-on : (a b c d : ℕ) (bs : List ℕ) (i j : ℕ) → i ≡ 4 + j → get_or (a ∷ b ∷ c ∷ d ∷ bs) i 0 ≡ get_or bs j 0
-four-on a b c d bs i j e = let f : i ≡ suc (suc (suc (suc j))) = omega arith in rw f
-
-word_on : (a b c d : ℕ) (bs : List ℕ) (k : ℕ) → word_from (a ∷ b ∷ c ∷ d ∷ bs) (4 * suc k) ≡ word_from bs (4 * k)
-word_on a b c d bs k =
-    rw (
-      four-on a b c d bs (4 * suc k) (4 * k) (omega arith),
-      four-on a b c d bs (4 * suc k + 1) (4 * k + 1) (omega arith),
-      four-on a b c d bs (4 * suc k + 2) (4 * k + 2) (omega arith),
-      four-on a b c d bs (4 * suc k + 3) (4 * k + 3) (omega arith),
-    )
-
-pub word-is : (bs : List ℕ) (k : ℕ) → k < length bs / 4 → get_or (words_of bs) k 0 ≡ word_from bs (4 * k)
+-- the words, as chunks of four bytes
+pub chunks-words : (bs : List ℕ) → map (from_le_bytes w32) (first_chunks 4 (length bs / 4) bs) ≡ words_of bs
 unfolding words_of
-word-is [] k h = absurd (omega arith)
-word-is (a ∷ []) k h = absurd (omega arith)
-word-is (a ∷ b ∷ []) k h = absurd (omega arith)
-word-is (a ∷ b ∷ c ∷ []) k h = absurd (omega arith)
-word-is (a ∷ b ∷ c ∷ d ∷ bs) zero h = refl
-word-is (a ∷ b ∷ c ∷ d ∷ bs) (suc k) h = word-is bs k (omega arith) ∙ sym (word_on a b c d bs k)
+chunks-words [] = refl
+chunks-words (a ∷ []) = refl
+chunks-words (a ∷ b ∷ []) = refl
+chunks-words (a ∷ b ∷ c ∷ []) = refl
+chunks-words (a ∷ b ∷ c ∷ d ∷ bs) =
+    let e : length (a ∷ b ∷ c ∷ d ∷ bs) / 4 ≡ suc (length bs / 4) = omega arith in
+    ap (λ (n : ℕ). map (from_le_bytes w32) (first_chunks 4 n (a ∷ b ∷ c ∷ d ∷ bs))) e
+    ∙ ap (λ (ws : List ℕ). (a + b * 256 + c * 65536 + d * 16777216) ∷ ws) (chunks-words bs)
 
--- the numbers of lent bytes
-numbers-length : (bs : List ℕ) → length (numbers_of bs) ≡ length bs / 4
-numbers-length bs = length-map (words_of bs) (to_z w32) ∙ words-length bs
+-- a run of chunks as the words and numbers of the bytes
+module _ (bs : List ℕ) (chunks : List (List ℕ)) (e : chunks ≡ first_chunks 4 (length bs / 4) bs) where
+  pub words-are : map (from_le_bytes w32) chunks ≡ words_of bs
+  words-are = ap (map (from_le_bytes w32)) e ∙ chunks-words bs
 
-pub within : (bs : List ℕ) (k : ℕ) → k < length bs / 4 → k < length (numbers_of bs)
-within bs k h = rw (numbers-length bs) h
+  pub numbers-are : map (λ (b : List ℕ). to_z w32 (from_le_bytes w32 b)) chunks ≡ numbers_of bs
+  numbers-are = sym (map-map (to_z w32) (from_le_bytes w32) chunks) ∙ ap (map (to_z w32)) words-are
 
-pub beyond : (bs : List ℕ) (k : ℕ) → length bs / 4 ≤ k → length (numbers_of bs) ≤ k
-beyond bs k h = rw (numbers-length bs) h
+  pub word-at : (k : ℕ) → k < length chunks → from_le_bytes w32 (get_or chunks k []) ≡ get_or (words_of bs) k 0
+  word-at k h = sym (get_or-map (from_le_bytes w32) chunks k [] 0 h) ∙ ap (λ (ws : List ℕ). get_or ws k 0) words-are
 
-pub numbers-at : (bs : List ℕ) (k w : ℕ) → w ≡ get_or (words_of bs) k 0 → to_z w32 w ≡ get_or (numbers_of bs) k (pos 0)
-numbers-at bs k w e = ap (to_z w32) e ∙ sym (get_or-map (to_z w32) (words_of bs) k 0)
+  pub number-at : (k : ℕ) → k < length chunks → to_z w32 (from_le_bytes w32 (get_or chunks k [])) ≡ get_or (numbers_of bs) k (pos 0)
+  number-at k h =
+      sym (get_or-map (λ (b : List ℕ). to_z w32 (from_le_bytes w32 b)) chunks k [] (pos 0) h)
+      ∙ ap (λ (zs : List ℤ). get_or zs k (pos 0)) numbers-are
 
--- with no bytes left over, what holds of the numbers decides
-pub whole : (bs : List ℕ) (b r : Bool) → length bs % 4 ≡ 0 → r ≡ b → r ≡ (none_left_over bs && b)
-whole bs b r e h = rw (eq-eqb (length bs % 4) 0 e) h
+  pub numbers-length : length (numbers_of bs) ≡ length chunks
+  numbers-length = sym (ap length numbers-are) ∙ length-map chunks (λ (b : List ℕ). to_z w32 (from_le_bytes w32 b))

@@ -8,11 +8,11 @@ mod numbers;
 mod open;
 mod order;
 
-// A literal's variable and sign from its 32 bits, and whether it is true at a setting; the bits of a signed number.
-pub use literal::{bits_of, is_one, is_true, positive, variable};
+// A literal's variable and sign, and whether it is true at a setting.
+pub use literal::{is_true, positive, variable};
 
-// The k-th number's bits.
-pub use numbers::{number_at, word_at};
+// The k-th word of lent bytes.
+pub use numbers::word_at;
 
 // Well-formedness, of words and of bytes.
 pub use form::{well_formed, well_formed_bytes};

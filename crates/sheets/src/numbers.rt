@@ -1,39 +1,54 @@
-// The k-th number of a lent run, by its 32 bits: of bytes four at a time, lowest first, and of words.
-ghost use Rattle.std.specs.Prelude.{◌≡◌, ◌+◌, ◌/◌, ◌≤◌, ◌<◌, length, get_or, pos};
-ghost use Rattle.std.specs.Int.{w32};
-ghost use Rattle.std.proofs.Common.{to_z};
+// Numbers as they are lent: words, or four bytes each, lowest first.
+ghost use Rattle.std.specs.Prelude.{◌≡◌, ◌/◌, ◌<◌, length, get_or, leb, ℤ};
+ghost use Rattle.std.specs.Int.{w32, from_le_bytes, cast_signed};
+ghost use Rattle.rules.specs.Sheets.{closes, variable};
 ghost use Rattle.rules.specs.Calls.{words_of};
-ghost use Rattle.sheets.specs.Numbers.{word_from};
 
-use crate::literal::bits_of;
+use crate::literal::variable;
 
-// A byte as a word, with its range.
-fn wide(b: u8) -> u32
-    ensures { (result ≡ b) × (result < 256) }
-{
-    b as u32
+// A lent number.
+pub trait Number {
+    ghost number: { Self → ℤ };
+
+    fn number(&self) -> i32
+        ensures { result ≡ number self.now };
+
+    // It closes a clause.
+    final fn closes(&self) -> bool
+        ensures { result ≡ closes (number self.now) }
+    {
+        self.number() == 0
+    }
+
+    // It lies in -n..n.
+    final fn is_within(&self, n: u32) -> bool
+        ensures { result ≡ leb (variable (number self.now)) n }
+    {
+        variable(self.number()).0 <= n
+    }
 }
 
-// The word of four bytes, the i-th and the next three.
-fn word_from(s: &[u8], i: usize) -> u32
-    requires { i + 4 ≤ length s.now }
-    ensures { result ≡ word_from s.now i }
-{
-    wide(s[i]) + wide(s[i + 1]) * 256 + wide(s[i + 2]) * 65536 + wide(s[i + 3]) * 16777216
+impl Number for i32 {
+    ghost number = { λ z. z };
+
+    fn number(&self) -> i32 {
+        *self
+    }
+}
+
+impl Number for [u8; 4] {
+    ghost number = { λ bytes. cast_signed w32 (from_le_bytes w32 bytes) };
+
+    fn number(&self) -> i32 {
+        i32::from_le_bytes(*self)
+    }
 }
 
 // The k-th word of the bytes.
-pub fn word_at(s: &[u8], k: usize) -> u32
-    requires { k < length s.now / 4 }
-    ensures { result ≡ get_or (words_of s.now) k 0 }
+pub fn word_at(bytes: &[u8], k: usize) -> u32
+    requires { k < length bytes.now / 4 }
+    ensures { result ≡ get_or (words_of bytes.now) k 0 }
 {
-    word_from(s, 4 * k)
-}
-
-// The bits of the k-th number.
-pub fn number_at(s: &[i32], k: usize) -> u32
-    requires { k < length s.now }
-    ensures { to_z w32 result ≡ get_or s.now k (pos 0) }
-{
-    bits_of(s[k])
+    let (words, _) = bytes.as_chunks::<4>();
+    u32::from_le_bytes(words[k])
 }

@@ -6,15 +6,7 @@ ghost use Rattle.rules.specs.Words.{times, is_order};
 fn times(v: u32, order: &[u32]) -> usize
     ensures { result ≡ times v order.now }
 {
-    let mut found = 0;
-    let mut k = 0;
-    while k < order.len() {
-        if order[k] == v {
-            found += 1;
-        }
-        k += 1;
-    }
-    found
+    order.iter().filter(|w| **w == v).count()
 }
 
 // The words are an order of n inputs.
@@ -24,12 +16,10 @@ pub fn is_order(n: u32, order: &[u32]) -> bool
     if order.len() != n as usize {
         return false;
     }
-    let mut v = n;
-    while v > 0 {
+    for v in 1..=n {
         if times(v, order) != 1 {
             return false;
         }
-        v -= 1;
     }
     true
 }

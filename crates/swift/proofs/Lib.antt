@@ -1,2 +1,2 @@
--- What copying and exchanging neighbours do to an order.
+-- What sorting does to an order.
 pub mod Orders

@@ -1,3 +1,2 @@
--- Which rows hold the setting, and the verdict.
-pub mod Held
-pub mod Verdict
+-- Which rows hold the setting.
+pub mod Rows

@@ -8,7 +8,7 @@ use std::fs;
 use std::path::Path;
 
 use second::program::output;
-use table::{groups, p5, File, Group};
+use table::{cases, p5, Case, File};
 
 /// The file as a case has it, and the bytes that the program reads of it.
 fn write(path: &Path, file: &File) -> Vec<u8> {
@@ -26,8 +26,8 @@ fn write(path: &Path, file: &File) -> Vec<u8> {
     }
 }
 
-/// What the test program begins with.
-const CASE: &str = "// Every case folder: its name, and what is printed for its two sheets. Written by tests/cases.
+/// The test program, up to the folders that it names and from there on.
+const HEAD: &str = "// Every case folder: its name, and what is printed for its two sheets. Written by tests/cases.
 #![tactic(auto)]
 
 mod path;
@@ -36,31 +36,29 @@ use path::joined;
 use std::io;
 use std::rt::Files;
 
-fn case<R: Files + Print>(rt: &R, folder: &[u8]) -> io::Result<()> {
-    rt.write_all(folder)?;
-    rt.write_all(b\"\\n\")?;
+";
+const TAIL: &str = "
+fn case<R: Files + Print>(rt: &R, folder: &str) -> io::Result<()> {
+    println!(rt; \"{folder}\")?;
     let mut on = [0; 64];
-    let ons = joined(folder, b\"/on.cnf\", &mut on);
+    let ons = joined(folder.as_bytes(), b\"/on.cnf\", &mut on);
     let mut off = [0; 64];
-    let offs = joined(folder, b\"/off.cnf\", &mut off);
+    let offs = joined(folder.as_bytes(), b\"/off.cnf\", &mut off);
     running::run(rt, &on[..ons], &off[..offs]);
+    Ok(())
+}
+
+fn main(rt: HostRuntime) -> io::Result<()> {
+    for folder in FOLDERS {
+        case(&rt, folder)?;
+    }
     Ok(())
 }
 ";
 
-/// The test program: functions of few cases each, which are quick to prove.
-fn program(groups: &[Group]) -> String {
-    let mut text = String::from(CASE);
-    let mut calls = String::new();
-    for group in groups {
-        for (k, cases) in group.cases.chunks(6).enumerate() {
-            let function = format!("{}_{}", group.name, k + 1);
-            calls += &format!("    {function}(&rt)?;\n");
-            let body: String = cases.iter().map(|case| format!("    case(rt, b\"{}\")?;\n", case.name)).collect();
-            text += &format!("\nfn {function}<R: Files + Print>(rt: &R) -> io::Result<()> {{\n{body}    Ok(())\n}}\n");
-        }
-    }
-    text + &format!("\nfn main(rt: HostRuntime) -> io::Result<()> {{\n{calls}    Ok(())\n}}\n")
+fn program(cases: &[Case]) -> String {
+    let folders: String = cases.iter().map(|case| format!("    \"{}\",\n", case.name)).collect();
+    format!("{HEAD}const FOLDERS: [&str; {}] = [\n{folders}];\n{TAIL}", cases.len())
 }
 
 fn main() {
@@ -68,8 +66,8 @@ fn main() {
     let data = test.join("data");
     let _ = fs::remove_dir_all(&data);
     let mut expected = Vec::new();
-    let groups = groups();
-    for case in groups.iter().flat_map(|group| &group.cases) {
+    let cases = cases();
+    for case in &cases {
         let folder = data.join(case.name);
         fs::create_dir_all(&folder).expect("a case folder");
         let on = write(&folder.join("on.cnf"), &case.on);
@@ -81,7 +79,7 @@ fn main() {
         expected.extend_from_slice(&output(&on, &off));
     }
     fs::write(test.join("stdout"), expected).expect("the expected output");
-    fs::write(test.join("src/main.rt"), program(&groups)).expect("the test program");
+    fs::write(test.join("src/main.rt"), program(&cases)).expect("the test program");
 
     let one = Path::new("crates/glimmeldoek");
     let (on, off) = p5();

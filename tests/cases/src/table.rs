@@ -16,12 +16,6 @@ pub struct Case {
     pub off: File,
 }
 
-/// A group is a function of the test program.
-pub struct Group {
-    pub name: &'static str,
-    pub cases: Vec<Case>,
-}
-
 const P5_ON: &[i32] = &[-1, -2, 0, 1, -3, 0];
 const P5_OFF: &[i32] = &[-1, 2, 0, 1, 3, 0];
 
@@ -46,9 +40,9 @@ fn off(name: &'static str, text: impl Into<String>) -> Case {
     texts(name, p5().0, text)
 }
 
-fn worked() -> Group {
+fn worked() -> Vec<Case> {
     let (p3_on, p3_off) = ([1, 2, 3, 0, -1, -2, -3, 0], [1, -2, 0, 2, -3, 0, 3, -1, 0]);
-    let cases = vec![
+    vec![
         sheets("p1", 3, &[1, 0, 2, 0, 3, 0], &[-1, -2, -3, 0]),
         sheets("p2", 3, &[-1, -2, -3, 0], &[1, 0, 2, 0, 3, 0]),
         sheets("p3", 3, &p3_on, &p3_off),
@@ -60,13 +54,12 @@ fn worked() -> Group {
         sheets("p10", 2, &[1, 0], &[2, 0]),
         sheets("p11", 1, &[1, 0], &[-1, 0]),
         sheets("parity_9", 9, &parity(9, true), &parity(9, false)),
-    ];
-    Group { name: "worked", cases }
+    ]
 }
 
-fn refusals() -> Group {
+fn refusals() -> Vec<Case> {
     let (on_text, off_text) = p5();
-    let cases = vec![
+    vec![
         on("on_10", padded(32769, &on_text)),
         on("on_11", "p cnf 3\n"),
         on("on_12", "p cnf 3 1\n1 4 0\n"),
@@ -83,12 +76,11 @@ fn refusals() -> Group {
         sheets("collision_of_4", 4, &[4, 0], &[2, 0, -3, 0]),
         sheets("collision_first_variable", 3, &[1, 0], &[1, 0]),
         sheets("parity_10", 10, &parity(10, true), &parity(10, false)),
-    ];
-    Group { name: "refusals", cases }
+    ]
 }
 
-fn headers() -> Group {
-    let cases = vec![
+fn headers() -> Vec<Case> {
+    vec![
         on("comments", format!("c on\nc\nc p cnf 9 9\n{}", p5().0)),
         on("comment_not_closed", "c no line feed"),
         on("header_spaces", "p  cnf   3  1 \t\n-1 -2 0\n"),
@@ -103,12 +95,11 @@ fn headers() -> Group {
         on("header_inputs_25", "p cnf 25 0\n"),
         on("header_clauses_1025", "p cnf 3 1025\n"),
         on("header_upper_case", "P CNF 3 1\n1 0\n"),
-    ];
-    Group { name: "headers", cases }
+    ]
 }
 
-fn bodies() -> Group {
-    let cases = vec![
+fn bodies() -> Vec<Case> {
+    vec![
         on("line_feeds_after_returns", p5().0.replace('\n', "\r\n")),
         on("tabs", "p cnf 3 2\n-1\t-2\t0\t1 -3 0"),
         on("no_final_line_feed", p5().0.trim_end()),
@@ -125,13 +116,12 @@ fn bodies() -> Group {
         on("two_zeros", "p cnf 3 1\n1 00\n"),
         on("minus_alone", "p cnf 3 1\n1 - 0\n"),
         on("letters", "p cnf 3 1\n1 x 0\n"),
-    ];
-    Group { name: "bodies", cases }
+    ]
 }
 
-fn limits() -> Group {
+fn limits() -> Vec<Case> {
     let (on_text, off_text) = p5();
-    let cases = vec![
+    vec![
         on("not_closed", "p cnf 3 1\n1 0 2\n"),
         on("count_below", "p cnf 3 0\n1 0\n"),
         on("count_above", "p cnf 3 3\n-1 -2 0 1 -3 0\n"),
@@ -146,10 +136,9 @@ fn limits() -> Group {
         Case { name: "on_a_folder", on: File::Folder, off: File::Text(off_text) },
         on("on_empty", ""),
         off("off_empty", ""),
-    ];
-    Group { name: "limits", cases }
+    ]
 }
 
-pub fn groups() -> Vec<Group> {
-    vec![worked(), refusals(), headers(), bodies(), limits()]
+pub fn cases() -> Vec<Case> {
+    [worked(), refusals(), headers(), bodies(), limits()].into_iter().flatten().collect()
 }

@@ -1,38 +1,40 @@
-use mathlib.Core.Path.{◌∙◌}
+use mathlib.Core.Path.{◌≡◌, subst, ◌∙◌}
 use borrow.Author.Rules.{rules}
-use Rattle.method.proofs.Prunes.{begin, now-asked, now-room, count-within, one_more, no_more, turn, finished}
+use native.Mathlib.Omega.{arith}
+use Prim.Native.Nat.{◌<◌, ◌≤◌}
+use lib.ListN.{length}
+use lib.Seq.{length-take-le}
+use Rattle.search.specs.Question.{Asked}
+use Rattle.method.proofs.Prunes.{begin, now-asked, count-within, one_more, no_more, turn, all-blanked, all-counted, split, first-size, changed}
 use Rattle.method.proofs.prune.prune.Goals as goal
 use Rattle.method.proofs.prune.prune.Goals.{else-judge, then-judge}
 
-pub loop-i-init : goal.loop-i-init
-loop-i-init c = begin _ _ _ _ _ c.requires.count_in_bounds
+pub loop-at-init : goal.loop-at-init
+loop-at-init c = begin _ _ _ _ _ _ (split _ c.args.ons _ c.requires.count_in_bounds) (first-size _ _ _ c.requires.count_in_bounds)
 
-pub judge-requires : goal.judge-requires
-judge-requires c =
-    record {
-      asked = now-asked _ _ _ _ _ c.requires.count_in_bounds _ _ _ c.loop-i.invariant c.requires.asked;
-      at_lt_size = search rules;
-      size_in_bounds = now-room _ _ _ _ _ c.requires.count_in_bounds _ _ _ c.loop-i.invariant;
-    }
+pub judge-requires-clause-asked : goal.judge-requires-clause-asked
+judge-requires-clause-asked c =
+    now-asked _ _ _ _ _ _ _ c.loop-at.invariant (subst (Asked _ _ _) (split _ c.args.ons _ c.requires.count_in_bounds) c.requires.asked)
 
 pub overflow_add-stay : goal.overflow_add-stay
 overflow_add-stay c =
-    let e = count-within _ _ _ _ _ c.requires.count_in_bounds _ _ _ c.loop-i.invariant in
+    let e : c.loop-at.stay ≤ c.loop-at.at = count-within _ _ _ _ _ _ _ c.loop-at.invariant in
     search (rules, e)
 
-pub loop-i-preserved : goal.loop-i-preserved
-loop-i-preserved c =
+pub loop-at-preserved : goal.loop-at-preserved
+loop-at-preserved c =
     let j = c.judge.ensures {-?-} in
+    let l : c.loop-at.at < length c.loop-at.rows = omega arith in
     elim c.if-judge.branch [
-      | then-judge w ↦
-          turn _ _ _ _ _ c.requires.count_in_bounds _ _ _ c.loop-i.invariant c.loop-i-test.true _ j.value _ j.rows_after _ (w.stay-is ∙ one_more _ _ w.if-judge.true)
-      | else-judge w ↦
-          turn _ _ _ _ _ c.requires.count_in_bounds _ _ _ c.loop-i.invariant c.loop-i-test.true _ j.value _ j.rows_after _ (w.stay-is ∙ no_more _ _ w.if-judge.false)
+      | then-judge w ↦ turn _ _ _ _ _ _ _ c.loop-at.invariant l _ j.value _ j.rows_after _ (w.stay-is ∙ one_more _ _ w.if-judge.true)
+      | else-judge w ↦ turn _ _ _ _ _ _ _ c.loop-at.invariant l _ j.value _ j.rows_after _ (w.stay-is ∙ no_more _ _ w.if-judge.false)
     ]
 
 pub returns : goal.returns
 returns c =
-    let h = finished _ _ _ _ _ c.requires.count_in_bounds _ _ _ c.loop-i.invariant c.loop-i-test.false in record {
-      rows_after = h.0;
-      value = h.1;
+    let h = length-take-le _ _ c.requires.count_in_bounds in
+    let e : c.loop-at.at ≡ length c.loop-at.rows = omega arith in
+    record {
+      rows_after = changed _ _ _ c.requires.count_in_bounds _ _ (c.loop-at.auto.rows ∙ h) (all-blanked _ _ _ _ _ _ _ c.loop-at.invariant e);
+      value = all-counted _ _ _ _ _ _ _ c.loop-at.invariant e;
     }

@@ -1,25 +1,8 @@
-use mathlib.Core.Path.{◌≡◌, sym, ◌∙◌}
-use native.Mathlib.Numerals.{add-one}
-use native.Mathlib.Omega.{arith}
-use borrow.Author.Rules.{rules}
-use lib.ListN.{length, length-set}
-use Rattle.probe.specs.Cubes.{cubes_in}
-use Rattle.probe.proofs.Runs.{cube-at, cubes-length, put_all, put-more}
+use Rattle.std.proofs.Common.{rules, ◌≡◌, ◌∙◌, sym, length, arith}
+use Rattle.probe.specs.Cubes.{cube_of, cubes_in}
+use Rattle.probe.proofs.Arrays.{filled}
+use Rattle.probe.proofs.Runs.{Long, cubes-length, cube-at}
 use Rattle.probe.proofs.cubes.cubes_in.Goals as goal
-
--- The loop has built the first i records.
-pub loop-i-preserved : goal.loop-i-preserved
-loop-i-preserved c =
-    let a = c.args in
-    let i = c.loop-i.i in
-    let cares : length a.care ≡ 256 = search rules in
-    let values : length a.value ≡ 256 = search rules in
-    let marks : length a.marks ≡ 256 = search rules in
-    let l = c.loop-i.invariant.1.1 in
-    let size = cubes-length a.care a.value a.marks (omega arith) (omega arith) in
-    let at = cube-at a.care a.value a.marks i c.cube.result (omega arith) (omega arith) (omega arith) in
-    let put = put-more (cubes_in a.care a.value a.marks) i c.loop-i.records c.cube.result c.cube.result c.loop-i.invariant.1.0 (omega arith) (omega arith) (c.cube.ensures ∙ sym at) in
-    (omega arith, (rw (add-one i) put, length-set c.loop-i.records i c.cube.result ∙ l))
 
 pub returns : goal.returns
 returns c =
@@ -27,9 +10,10 @@ returns c =
     let cares : length a.care ≡ 256 = search rules in
     let values : length a.value ≡ 256 = search rules in
     let marks : length a.marks ≡ 256 = search rules in
-    let l = c.loop-i.invariant.1.1 in
-    let size = cubes-length a.care a.value a.marks (omega arith) (omega arith) in
+    let long : Long a.care a.value a.marks = (omega arith, omega arith) in
     record {
-      value = put_all (cubes_in a.care a.value a.marks) c.loop-i.i c.loop-i.records c.loop-i.invariant.1.0 (omega arith) (omega arith);
-      care_len = (cares, (values, marks));
+      value = filled _ (cubes_in a.care a.value a.marks) (cube_of 0 0 0)
+          (λ i y q l h. let at = cube-at a.care a.value a.marks i (cube_of 0 0 0) long (omega arith) in (search (rules, sym at), search rules))
+          (cubes-length a.care a.value a.marks long ∙ cares) c.from_fn.ensures.items;
+      sizes = (cares, (values, marks));
     }

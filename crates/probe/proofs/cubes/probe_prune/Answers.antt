@@ -1,26 +1,20 @@
 -- The answer and the marks are those of the rows lent; the records' words come back.
-use mathlib.Core.Path.{◌∙◌, ap}
-use mathlib.Core.List.{List, [], ◌∷◌}
-use Rattle.rules.specs.declared.Row.{Row}
-use Rattle.rules.specs.Answers.{reply_of}
-use Rattle.rules.specs.Calls.{kept, prune}
-use Rattle.probe.specs.Packed.{packed_counts}
-use Rattle.probe.proofs.Runs.{same_rows, same-cares, same-values, new-marks}
+use mathlib.Core.Path.{refl, ap, ◌∙◌}
+use native.Mathlib.Omega.{arith}
+use Rattle.probe.specs.Cubes.{cares_of, values_of, marks_of}
+use Rattle.probe.proofs.Runs.{Back, back, kept, marks-left}
 use Rattle.probe.proofs.cubes.probe_prune.Goals as goal
 
 pub returns : goal.returns
 returns c =
     let a = c.args in
-    let ys = c.cubes_in.result in
-    let zs = c.pruned_array-pruned.result.records in
-    let e = c.cubes_in.ensures.value in
-    let long = c.cubes_in.ensures.care_len in
-    let f = c.pruned_array-pruned.ensures.1 in
+    let long = c.cubes_in.ensures.sizes in
+    let b : Back a.care.now a.value.now a.dropped.now c.cubes_in.result = rw c.cubes_in.ensures.value (back _ _ _ (omega (arith, long), omega (arith, long))) in
+    let p = c.pruned_array-answer.ensures in
+    let left = c.put_back.ensures in
     record {
-      value = c.prune_reply.ensures ∙ ap packed_counts c.pruned_array-pruned.ensures.0
-          ∙ ap (λ (rows : List Row). packed_counts (reply_of (λ m. kept m ∷ []) (prune a.n a.count rows)))
-          (same_rows a.n a.count a.care.now a.value.now a.dropped.now long ys zs e);
-      care_unchanged = c.put_back.ensures.care_after ∙ same-cares a.n a.count a.care.now a.value.now a.dropped.now long ys zs e f;
-      value_unchanged = c.put_back.ensures.value_after ∙ same-values a.n a.count a.care.now a.value.now a.dropped.now long ys zs e f;
-      dropped_after = c.put_back.ensures.dropped_after ∙ new-marks a.n a.count a.care.now a.value.now a.dropped.now long ys zs e f;
+      value = rw (← b.rows, ← p.0) c.count_reply.ensures.counts;
+      care_unchanged = left.care_after ∙ ap cares_of p.1 ∙ kept (λ c. c.care) (λ d c. refl) _ _ ∙ b.cares;
+      value_unchanged = left.value_after ∙ ap values_of p.1 ∙ kept (λ c. c.value) (λ d c. refl) _ _ ∙ b.values;
+      dropped_after = left.dropped_after ∙ ap marks_of p.1 ∙ marks-left _ _ _ ∙ rw (b.rows, b.marks);
     }

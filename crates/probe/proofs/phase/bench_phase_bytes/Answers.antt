@@ -1,19 +1,8 @@
-use mathlib.Core.Path.{sym, ◌∙◌}
-use native.Mathlib.Omega.{arith}
-use Rattle.probe.proofs.Phases.{bytes-asked, bytes-found, bytes_left}
+use mathlib.Core.Path.{sym}
+use Rattle.std.proofs.lemmas.Bool.{and_parts}
+use Rattle.probe.proofs.Phases.{placed-asked}
 use Rattle.probe.proofs.phase.bench_phase_bytes.Goals as goal
 
-pub settings-requires : goal.settings-requires
-settings-requires c =
-    record {
-      asked = bytes-asked c.args.n c.args.order.now c.args.on.now c.args.rows.now (sym c.is_formed_bytes.ensures ∙ c.if-not-is_formed_bytes.false);
-      k_in_bounds = omega arith;
-    }
-
-pub returns : goal.returns
-returns c =
-    let f = sym c.is_formed_bytes.ensures ∙ c.if-not-is_formed_bytes.false in
-    record {
-      value = bytes-found c.args.n c.args.order.now c.args.on.now c.args.rows.now f _ c.settings.ensures.value;
-      rows_after = bytes_left c.args.n c.args.order.now c.args.on.now c.args.rows.now f _ c.settings.ensures.kept_after;
-    }
+pub settings-requires-clause-asked : goal.settings-requires-clause-asked
+settings-requires-clause-asked c =
+    placed-asked c.args.n _ _ (sym c.if-not-is_inputs.ensures) (sym c.if-not-is_order.ensures) (and_parts _ _ (sym c.if-not-well_formed_bytes.ensures)).1

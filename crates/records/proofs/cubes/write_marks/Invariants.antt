@@ -1,11 +1,8 @@
-use mathlib.Core.Path.{◌≡◌}
-use Prim.Native.Nat.{◌-◌, ◌≤◌}
-use Rattle.records.specs.Steps.{marked_to}
+-- The first k records are marked by their rows.
+use Rattle.std.proofs.Common.{◌≡◌, map, take}
+use Rattle.method.specs.Blank.{is_blank}
+use Rattle.records.specs.Marks.{marked_by}
 use Rattle.records.proofs.cubes.write_marks.Given as goal
 
--- the first i records have their marks
-abbrev pub invariant-loop-i : goal.invariant-loop-i
-invariant-loop-i l = (l.i ≤ l.count) × (l.records ≡ marked_to l.initial.records l.plan.dropped l.i)
-
-abbrev pub decreases-loop-i : goal.decreases-loop-i
-decreases-loop-i l = l.count - l.i
+abbrev pub invariant-loop-k : goal.invariant-loop-k
+invariant-loop-k l = l.records ≡ marked_by (map is_blank (take l.k l.rows)) l.initial.records

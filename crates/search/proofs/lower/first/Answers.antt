@@ -1,21 +1,10 @@
-use mathlib.Core.Path.{sym, ap, ◌∙◌}
+use mathlib.Core.Path.{ap, ◌∙◌}
 use Rattle.search.specs.Question.{found_as}
-use Rattle.search.proofs.Swift.{asked-swift, swift-met, swift-none}
+use Rattle.search.proofs.Lowering.{first-met, first-none}
 use Rattle.search.proofs.lower.first.Goals as goal
 
-pub find-f-requires : goal.find-f-requires
-find-f-requires c =
-    asked-swift c.requires.asked _ c.requires.swift_value
+pub returns-in_err-met : goal.returns-in_err-met
+returns-in_err-met c = ap found_as c.from_residual.ensures ∙ first-none c.args.q.now _ c.args.row c.requires c.in_err-met.ensures
 
-pub lower-t-requires : goal.lower-t-requires
-lower-t-requires c =
-    let m = swift-met c.requires.asked _ c.requires.swift_value _ c.args.row c.requires.ahead.formed _ (sym c.find-f.ensures ∙ ap found_as c.in-At.is) in record {
-      asked = c.requires.asked;
-      swift_value = c.requires.swift_value;
-      ahead = c.requires.ahead;
-      met = m;
-    }
-
-pub returns : goal.returns
-returns c =
-    sym (swift-none c.requires.asked _ c.requires.swift_value _ c.args.row c.requires.ahead.formed c.args.place.0 (sym c.find-f.ensures ∙ ap found_as c.in_default.is))
+pub lower-requires-clause-met : goal.lower-requires-clause-met
+lower-requires-clause-met c = first-met c.args.q.now _ c.args.row c.requires _ c.in_ok-met.ensures

@@ -4,4 +4,4 @@ use Rattle.search.proofs.smallest.+search.Given as goal
 
 -- the places left
 abbrev pub decreases-search : goal.decreases-search
-decreases-search l = length l.order.now.now - l.place.0
+decreases-search l = length l.q.now.swift.now - l.place.0

@@ -1,40 +1,45 @@
-use mathlib.Core.Path.{◌∙◌}
-use native.Mathlib.Nat.{le_trans}
-use Rattle.sheets.proofs.Signs.{literal-variable}
-use Rattle.sheets.proofs.Clauses.{reach-at, form-reach}
-use Rattle.sheets.proofs.Barring.{begin, finished, literal-turn, has_room, close-turn}
+use Rattle.std.proofs.Common.{rules, refl, pos, get_or, ◌∙◌, le_trans, to_z-of_z, w32, SFits}
+use Rattle.sheets.proofs.Signs.{zero-closes, other-closes}
+use Rattle.sheets.proofs.Clauses.{form-reach, literal-in}
+use Rattle.sheets.proofs.Barring.{is-empty, finished, literal-turn, has_room, skip-turn, write-turn}
 use Rattle.sheets.proofs.barred.bar.Goals as goal
-use Rattle.sheets.proofs.barred.bar.Goals.{else-w-eq0, then-w-eq0}
+use Rattle.sheets.proofs.barred.bar.Goals.{then-literal-eq0, else-literal-eq0, in-Some, in_default}
 
-pub loop-k-init : goal.loop-k-init
-loop-k-init c = begin _ _ _ c.empty-clause.ensures
+pub bounds-rows-count : goal.bounds-rows-count
+bounds-rows-count c =
+    let z = get_or c.args.sheet.now c.loop-literal.literal-index (pos 0) in
+    let f : SFits w32 z = search rules in
+    has_room _ _ _ _ _ _ c.loop-literal.invariant z c.loop-literal-test.true refl (zero-closes z f c.if-literal-eq0.true) _ refl c.requires.sheet_in_bounds
 
-pub write-count-requires : goal.write-count-requires
-write-count-requires c =
-    has_room _ _ c.requires.sheet_in_bounds _ _ _ _ c.loop-k.invariant _ c.loop-k-test.true c.number_at-w.ensures c.if-w-eq0.true
+pub with_literal-clause-requires : goal.with_literal-clause-requires
+with_literal-clause-requires c =
+    let z = get_or c.args.sheet.now c.loop-literal.literal-index (pos 0) in
+    let f : SFits w32 z = search rules in
+    let p = literal-in _ _ z c.loop-literal-test.true refl _ (form-reach _ _ c.requires.sheet_value) (other-closes z c.if-literal-eq0.false) in
+    rw to_z-of_z (p.0, le_trans p.1 c.args.n.few)
 
-pub with-clause-requires : goal.with-clause-requires
-with-clause-requires c = (
-  literal-variable _ c.if-w-eq0.false,
-  rw c.number_at-w.ensures
-      (le_trans (reach-at _ _ _ (form-reach _ _ c.requires.sheet_value) c.loop-k-test.true) c.requires.n_le_max_inputs),
-)
-
-pub loop-k-preserved : goal.loop-k-preserved
-loop-k-preserved c =
-    let h = c.loop-k-test.true in
-    let e = c.number_at-w.ensures in
-    elim c.if-w-eq0.branch [
-      | then-w-eq0 w ↦
-          close-turn _ _ c.requires.sheet_in_bounds c.loop-k.k _ _ _ c.loop-k.invariant _ h e w.if-w-eq0.true
-          _ _ _ _ w.rows-is w.write-count.ensures.rows_after (w.count-is ∙ w.write-count.ensures.value) (w.clause-is ∙ w.empty-clause-then-w-eq0.ensures)
-      | else-w-eq0 w ↦
-          literal-turn _ _ c.requires.sheet_in_bounds c.loop-k.k _ _ _ c.loop-k.invariant _ h e w.if-w-eq0.false _ _ _ w.rows-is w.count-is (w.clause-is ∙ w.with-clause.ensures)
+pub loop-literal-preserved : goal.loop-literal-preserved
+loop-literal-preserved c =
+    let z = get_or c.args.sheet.now c.loop-literal.literal-index (pos 0) in
+    let f : SFits w32 z = search rules in
+    let i = c.loop-literal.invariant in
+    let h = c.loop-literal-test.true in
+    elim c.if-literal-eq0.branch [
+      | then-literal-eq0 w ↦
+          let closes = zero-closes z f w.if-literal-eq0.true in
+          let empty = w.clause-is ∙ is-empty _ w.dashes-then-literal-eq0.ensures in
+          rw (w.rows-is, w.count-is)
+          (elim w.match-clause.branch [
+            | in-Some w' ↦ rw (w'.rows-is, w'.count-is) (write-turn _ _ _ _ _ _ i z h refl closes _ empty _ w'.in-Some.is c.requires.sheet_in_bounds)
+            | in_default w' ↦ rw (w'.rows-is, w'.count-is) (skip-turn _ _ _ _ _ _ i z h refl closes _ empty w'.in_default.is)
+          ])
+      | else-literal-eq0 w ↦
+          rw (w.rows-is, w.count-is)
+          (literal-turn _ _ _ _ _ _ i z h refl (other-closes z w.if-literal-eq0.false) _ (w.clause-is ∙ (rw to_z-of_z at w.with_literal-clause.ensures)))
     ]
 
-pub returns : goal.returns
-returns c =
-    let h = finished _ _ c.requires.sheet_in_bounds _ _ _ _ c.loop-k.invariant c.loop-k-test.false in record {
-      rows_after = h.0;
-      value = h.1;
-    }
+pub returns-clause-rows_after : goal.returns-clause-rows_after
+returns-clause-rows_after c = (finished _ _ _ _ _ _ c.loop-literal.invariant c.loop-literal-test.false).0
+
+pub returns-clause-value : goal.returns-clause-value
+returns-clause-value c = (finished _ _ _ _ _ _ c.loop-literal.invariant c.loop-literal-test.false).1

@@ -2,3 +2,6 @@
 pub mod Arrays
 pub mod Runs
 pub mod Phases
+pub mod Pairs
+pub mod Recent
+pub mod Finds

@@ -2,16 +2,20 @@
 use mathlib.Core.Path.{◌≡◌, refl, sym, ap, ◌∙◌}
 use mathlib.Core.Bool.{Bool, true, false, cond, ◌&&◌, and_assoc}
 use mathlib.Core.List.{List, [], ◌∷◌, map}
-use Prim.Native.Nat.{ℕ, ◌+◌, ◌-◌}
-use native.Mathlib.Nat.{zero-add}
+use Prim.Native.Nat.{ℕ, ◌+◌, ◌-◌, ◌≤◌, ◌<◌}
+use native.Mathlib.Nat.{zero-add, add-zero}
 use lib.Dec.{eqb, leb}
 use lib.IntN.{ℤ}
-use lib.ListN.{length, length-map}
+use lib.ListN.{length, length-map, get_or, take}
+use lib.Seq.{take_all}
+use mir.Val.{bool_byte}
 use Rattle.std.specs.Prelude.{Option, Some, None, MatchOption, IfSome, slice_get}
 use native.Mathlib.Omega.{arith}
 use Rattle.std.specs.List.{count_by, list_all}
 use Rattle.std.proofs.lemmas.List.Recursion.{is_count_by}
+use Rattle.std.proofs.lemmas.List.Sums.{count_by_more_yes, count_by_more_no}
 use Rattle.rules.specs.Words.{one, times}
+use Rattle.rules.proofs.Logic.{test}
 use Rattle.rules.specs.Sheets.{max_numbers, max_clauses, variable, closes, clauses, ends_closed, in_reach, well_formed}
 
 one-more : (b : Bool) (k : ℕ) → one b + k ≡ cond b (1 + k) k
@@ -21,6 +25,20 @@ one-more false k = zero-add k
 pub times-count : (v : ℕ) (order : List ℕ) → count_by (λ w. eqb w v) order ≡ times v order
 unfolding times
 times-count v order = sym (is_count_by (times v) (λ w. eqb w v) refl (λ w ws. one-more (eqb w v) (times v ws)) order)
+
+-- what holds in a loop that has passed i items, and counted those that pass the test
+abbrev pub Counted : {A : Type 0} → (A → Bool) → List A → ℕ → ℕ → Type 0
+Counted p xs i found = (found ≡ count_by p (take i xs)) × (found ≤ i)
+
+module _ {A : Type 0} (p : A → Bool) (xs : List A) (i found : ℕ) (inv : Counted p xs i found) where
+  pub one-counted : i < length xs → (d : A) (more : ℕ) → more ≡ bool_byte (p (get_or xs i d)) → Counted p xs (i + 1) (found + more)
+  one-counted h d more e =
+      test (p (get_or xs i d))
+      (λ y. let m : more ≡ 1 = rw y at e in (rw (m, inv.0) (sym (count_by_more_yes p xs i d h y)), omega (arith, inv.1, m)))
+      (λ n. let m : more ≡ 0 = rw n at e in (rw (m, inv.0, add-zero) (sym (count_by_more_no p xs i d h n)), omega (arith, inv.1, m)))
+
+  pub all-counted : length xs ≤ i → found ≡ count_by p xs
+  all-counted h = inv.0 ∙ ap (count_by p) (take_all i xs h)
 
 -- numbers that are lent as something else
 module _ {A : Type 0} (number : A → ℤ) where

@@ -11,7 +11,11 @@ use rules::Sheet;
 fn clauses<N: Number>(sheet: &[N]) -> usize
     ensures { result ≡ clauses (map N.number sheet.now) }
 {
-    sheet.iter().filter(|x| x.closes()).count()
+    let mut found = 0;
+    for x in sheet {
+        found += usize::from(x.closes());
+    }
+    found
 }
 
 // The last number, if there is one, closes a clause.

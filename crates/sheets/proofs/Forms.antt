@@ -1,17 +1,18 @@
 -- The form of a sheet and of an order, as the tests of single numbers give it.
 use mathlib.Core.Path.{◌≡◌, refl, sym, ap, ◌∙◌}
-use mathlib.Core.Bool.{Bool, true, false, cond, ◌&&◌, and_assoc}
+use mathlib.Core.Bool.{Bool, true, false, cond, ◌&&◌, and-true, and_assoc}
 use mathlib.Core.List.{List, [], ◌∷◌, map}
-use Prim.Native.Nat.{ℕ, ◌+◌, ◌-◌, ◌≤◌, ◌<◌}
+use Prim.Native.Nat.{ℕ, suc, ◌+◌, ◌-◌, ◌≤◌, ◌<◌}
 use native.Mathlib.Nat.{zero-add, add-zero}
 use lib.Dec.{eqb, leb}
 use lib.IntN.{ℤ}
-use lib.ListN.{length, length-map, get_or, take}
-use lib.Seq.{take_all}
+use lib.ListN.{length, length-map, get_or, take, drop, drop_of_length-le}
+use lib.Seq.{take_all, drop-cons}
 use mir.Val.{bool_byte}
 use Rattle.std.specs.Prelude.{Option, Some, None, MatchOption, IfSome, slice_get}
+use native.Mathlib.Numerals.{add-one}
 use native.Mathlib.Omega.{arith}
-use Rattle.std.specs.List.{count_by, list_all}
+use Rattle.std.specs.List.{count_by}
 use Rattle.std.proofs.lemmas.List.Recursion.{is_count_by}
 use Rattle.std.proofs.lemmas.List.Sums.{count_by_more_yes, count_by_more_no}
 use Rattle.rules.specs.Words.{one, times}
@@ -47,10 +48,20 @@ module _ {A : Type 0} (number : A → ℤ) where
   clauses-count xs =
       sym (is_count_by (λ ys. clauses (map number ys)) (λ x. closes (number x)) refl (λ y ys. one-more (closes (number y)) (clauses (map number ys))) xs)
 
-  pub all-in_reach : (n : ℕ) (xs : List A) → list_all (λ x. leb (variable (number x)) n) xs ≡ in_reach n (map number xs)
-  unfolding in_reach
-  all-in_reach n [] = refl
-  all-in_reach n (x ∷ xs) = ap (λ (b : Bool). leb (variable (number x)) n && b) (all-in_reach n xs)
+  -- what holds in a loop that has looked at i numbers, and found whether all of them lie within n
+  abbrev pub Within : ℕ → List A → ℕ → Bool → Type 0
+  Within n xs i all = (all && in_reach n (map number (drop i xs))) ≡ in_reach n (map number xs)
+
+  module _ (n : ℕ) (xs : List A) (i : ℕ) (all : Bool) (inv : Within n xs i all) where
+    pub one-within : i < length xs → (x : A) → x ≡ get_or xs i x → (b : Bool) → b ≡ leb (variable (number x)) n → Within n xs (i + 1) (all && b)
+    unfolding in_reach
+    one-within h x e b d =
+        let s : x ∷ drop (i + 1) xs ≡ drop i xs = rw add-one (ap (λ y. y ∷ drop (suc i) xs) e ∙ sym (drop-cons xs i x h)) in
+        rw d (and_assoc all (leb (variable (number x)) n) (in_reach n (map number (drop (i + 1) xs))) ∙ ap (λ ys. all && in_reach n (map number ys)) s ∙ inv)
+
+    pub all-within : length xs ≤ i → all ≡ in_reach n (map number xs)
+    unfolding in_reach
+    all-within h = sym (ap (λ ys. all && in_reach n (map number ys)) (drop_of_length-le xs h) ∙ and-true all) ∙ inv
 
   -- the last number, if there is one
   last-closes : (closed b : Bool) (x : A) (xs : List A) → IfSome (slice_get (x ∷ xs) (length xs)) (λ y. b ≡ closes (number y))

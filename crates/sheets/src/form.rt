@@ -29,7 +29,11 @@ fn ends_closed<N: Number>(sheet: &[N]) -> bool
 fn in_reach<N: Number>(n: u32, sheet: &[N]) -> bool
     ensures { result ≡ in_reach n (map N.number sheet.now) }
 {
-    sheet.iter().all(|x| x.is_within(n))
+    let mut all = true;
+    for x in sheet {
+        all &= x.is_within(n);
+    }
+    all
 }
 
 // The numbers are a well-formed sheet of n inputs, however they are lent.

@@ -11,7 +11,11 @@ use rules::Sheet;
 fn clauses<N: Number>(sheet: &[N]) -> usize
     ensures { result ≡ clauses (map N.number sheet.now) }
 {
-    sheet.iter().filter(|x| x.closes()).count()
+    let mut found = 0;
+    for x in sheet {
+        found += usize::from(x.closes());
+    }
+    found
 }
 
 // The last number, if there is one, closes a clause.
@@ -25,7 +29,11 @@ fn ends_closed<N: Number>(sheet: &[N]) -> bool
 fn in_reach<N: Number>(n: u32, sheet: &[N]) -> bool
     ensures { result ≡ in_reach n (map N.number sheet.now) }
 {
-    sheet.iter().all(|x| x.is_within(n))
+    let mut all = true;
+    for x in sheet {
+        all &= x.is_within(n);
+    }
+    all
 }
 
 // The numbers are a well-formed sheet of n inputs, however they are lent.

@@ -6,7 +6,11 @@ ghost use Rattle.rules.specs.Words.{times, is_order};
 fn times(v: u32, order: &[u32]) -> usize
     ensures { result ≡ times v order.now }
 {
-    order.iter().filter(|w| **w == v).count()
+    let mut found = 0;
+    for w in order {
+        found += usize::from(*w == v);
+    }
+    found
 }
 
 // The words are an order of n inputs.
@@ -16,7 +20,7 @@ pub fn is_order(n: u32, order: &[u32]) -> bool
     if order.len() != n as usize {
         return false;
     }
-    for v in 1..=n {
+    for v in (1..=n).rev() {
         if times(v, order) != 1 {
             return false;
         }

@@ -39,8 +39,15 @@ impl<'a> Writer<'a> {
         requires { HasRoom self.old (digits m) }
         ensures { Writes self.old (digits m) self.new }
     {
-        let last = [digit_of(m / 100), digit_of(m / 10), digit_of(m)];
-        self.put_bytes(&last[3 - digit_count(m)..]);
+        let ones = digit_of(m);
+        if m < 10 {
+            return self.put_bytes(&[ones]);
+        }
+        let tens = digit_of(m / 10);
+        if m < 100 {
+            return self.put_bytes(&[tens, ones]);
+        }
+        self.put_bytes(&[digit_of(m / 100), tens, ones]);
     }
 
     // A character for each of n variables, variable 1 first.

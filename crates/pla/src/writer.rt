@@ -28,7 +28,10 @@ impl<'a> Writer<'a> {
         ensures { Writes self.old new.now self.new }
     {
         let end = self.at + new.len();
-        self.text[self.at..end].copy_from_slice(new);
+        // Byte by byte: a copy between slices looks first whether they overlap, which costs more than the few bytes that are put.
+        for (k, byte) in new.iter().enumerate() {
+            self.text[self.at + k] = *byte;
+        }
         self.at = end;
     }
 

@@ -1,5 +1,4 @@
--- Arrays made element by element, the calls on records, and the search phase by itself.
-pub mod Arrays
+-- The calls on records, and the search phase by itself.
 pub mod Runs
 pub mod Phases
 pub mod Pairs

@@ -12,7 +12,7 @@ use Rattle.rules.specs.Calls.{rows_in, write}
 use Rattle.rules.proofs.Logic.{test}
 
 -- the rows in the first words of two runs are the first rows
-rows-first : (k : ℕ) (cs vs : List ℕ) → rows_in (take k cs) (take k vs) ≡ take k (rows_in cs vs)
+pub rows-first : (k : ℕ) (cs vs : List ℕ) → rows_in (take k cs) (take k vs) ≡ take k (rows_in cs vs)
 unfolding rows_in
 rows-first zero cs vs = refl
 rows-first (suc k) [] vs = refl
@@ -23,7 +23,7 @@ rows-first (suc k) (c ∷ cs) (v ∷ vs) = ap (λ l. record { care = c; value = 
 first-there : (count k : ℕ) (rows : List Row) → count ≤ k → leb count (length (take k rows)) ≡ leb count (length rows)
 first-there count k rows l = grind (arith, nat_tests, length-take)
 
-write-first : (n count k room : ℕ) (rows : List Row) → min count max_rows ≤ k → write n count (take k rows) room ≡ write n count rows room
+pub write-first : (n count k room : ℕ) (rows : List Row) → min count max_rows ≤ k → write n count (take k rows) room ≡ write n count rows room
 unfolding write judge
 write-first n count k room rows m =
     test (leb count max_rows)

@@ -18,6 +18,7 @@ fn cubes_in(care: [u32; 256], value: [u32; 256], marks: [u32; 256]) -> [Cube; 25
         value: 0,
         dropped: false,
     }; 256];
+    // By index: nothing is known of the cells that are written by a `zip` over `iter_mut`.
     for (i, cube) in records.iter_mut().enumerate() {
         *cube = Cube {
             care: care[i],

@@ -7,14 +7,14 @@
 #include <string.h>
 #include <time.h>
 
-enum { ROUNDS = 25, ABC_ROUNDS = 5, LINES = 64, ROOM = 2 * MAX_CLAUSES };
+enum { ROUNDS = 25, ABC_ROUNDS = 5, LINES = 64, WORDS = 4 * MAX_CLAUSES };
 
 /* A call to measure; it answers a number that both sides must agree on. */
 typedef uint64_t Call(const Pair *pair);
 
 static uint32_t care[MAX_ROWS], value[MAX_ROWS];
 static uint8_t bytes[4 * MAX_NUMBERS]; /* the on sheet of the search phase */
-static Row rows_c[ROOM];               /* and what it leaves */
+static Row rows_c[WORDS / 2];          /* and what it leaves */
 
 /* The refusal, the count and a sum over the rows. */
 static uint64_t digest(uint32_t refusal, size_t count)
@@ -34,16 +34,16 @@ static uint64_t whole_c(const Pair *p)
 
 static uint64_t phase_rows_c(const Pair *p)
 {
-    return plain_phase_rows(p->n, p->order, p->on.numbers, p->on.count, rows_c, ROOM);
+    return plain_phase_rows(p->n, p->order, p->on.numbers, p->on.count, rows_c, WORDS / 2);
 }
 
 static uint64_t phase_bytes_c(const Pair *p)
 {
-    return plain_phase_bytes(p->n, p->order, bytes, 4 * p->on.count, rows_c, ROOM);
+    return plain_phase_bytes(p->n, p->order, bytes, 4 * p->on.count, rows_c, WORDS / 2);
 }
 
 #ifdef HAVE_PROBE
-static Row rows_ours[ROOM];
+static uint32_t words_ours[WORDS];
 
 static uint64_t whole_ours(const Pair *p)
 {
@@ -55,18 +55,18 @@ static uint64_t whole_ours(const Pair *p)
 
 static uint64_t phase_rows_ours(const Pair *p)
 {
-    return bench_phase_rows(p->n, p->order, p->n, p->on.numbers, p->on.count, rows_ours, ROOM);
+    return bench_phase_rows(p->n, p->order, p->n, p->on.numbers, p->on.count, words_ours, WORDS);
 }
 
 static uint64_t phase_bytes_ours(const Pair *p)
 {
-    return bench_phase_bytes(p->n, p->order, p->n, bytes, 4 * p->on.count, rows_ours, ROOM);
+    return bench_phase_bytes(p->n, p->order, p->n, bytes, 4 * p->on.count, words_ours, WORDS);
 }
 
 /* After a phase of both. */
 static bool same_rows(void)
 {
-    return memcmp(rows_ours, rows_c, sizeof rows_c) == 0;
+    return memcmp(words_ours, rows_c, sizeof rows_c) == 0;
 }
 #else
 static Call *const whole_ours = NULL, *const phase_rows_ours = NULL, *const phase_bytes_ours = NULL;

@@ -2,10 +2,11 @@
 use mathlib.Core.Path.{◌≡◌, refl, sym, ap, ◌∙◌}
 use mathlib.Core.Bool.{Bool, true, false, cond}
 use mathlib.Core.List.{List, [], ◌∷◌, ◌++◌, append_assoc, append-nil}
-use Prim.Native.Nat.{ℕ, ◌+◌, ◌-◌, ◌≤◌}
+use Prim.Native.Nat.{ℕ, ◌+◌, ◌-◌, ◌≤◌, ◌<◌}
+use native.Mathlib.Numerals.{add-one}
 use native.Mathlib.Omega.{arith}
-use lib.ListN.{length, take, drop, length-append, length-drop}
-use lib.Seq.{take-append_seam, take_at, drop_at, take-length, drop-length, length-take-le}
+use lib.ListN.{length, get_or, take, drop, set, length-append, length-drop}
+use lib.Seq.{take-suc, take-append_seam, take_at, drop_at, take-length, drop-length, length-take-le}
 use borrow.Rule.Slice.PartMut.{put_mid}
 use native.Mathlib.Nat.{zero-add}
 use Rattle.rules.specs.declared.Row.{Row}
@@ -19,6 +20,7 @@ use Rattle.std.proofs.lemmas.Slice.{between-put_mid}
 use Rattle.rules.proofs.Orders.{is-order}
 use Rattle.rules.proofs.Generation.{All, generated-rows}
 use Rattle.sheets.specs.Numbers.{numbers_of}
+use Rattle.sheets.proofs.Over.{over-more}
 use Rattle.search.specs.Question.{cares_within, Asked}
 use Rattle.method.specs.Blank.{blanked, solid}
 use Rattle.method.proofs.Blanks.{solid-all, solid-blanked, blanked-length}
@@ -38,9 +40,15 @@ behind-over front rows old new m count e f h =
 pub within-over : (front rows old new : List Row) (m count : ℕ) → m ≡ length front → count ≡ length rows → new ≡ over (front ++ rows) old → m + count ≤ length new
 within-over front rows old new m count e f h = rw h (simp length-append (omega arith))
 
--- What is copied stands first.
-pub first-are : (r copied rest rows : List Row) → copied ≡ r → r ≡ rows → take (length r) (copied ++ rest) ≡ rows
-first-are r copied rest rows e h = rw (e, take-append_seam _ _) h
+-- One more row is copied; and what was copied stands first.
+pub copied-next : (rows old kept : List Row) (k : ℕ) (none : Row) → kept ≡ over (take k rows) old → k < length rows → length rows ≤ length old
+    → set kept k (get_or rows k none) ≡ over (take (k + 1) rows) old
+copied-next rows old kept k none e h l =
+    let s : take k rows ++ (get_or rows k none ∷ []) ≡ take (k + 1) rows = rw add-one (sym (take-suc rows k none h)) in
+    rw e (over-more (take k rows) old (get_or rows k none) k (sym (length-take-le k rows (omega arith))) (omega arith) ∙ ap (λ (f : List Row). over f old) s)
+
+pub first-are : (r old rows : List Row) → r ≡ rows → take (length r) (over r old) ≡ rows
+first-are r old rows h = take-append_seam r (drop (length r) old) ∙ h
 
 -- How many are marked as staying is how many are picked.
 picked-length : (m : List Bool) (rows : List Row) → length m ≡ length rows → length (picked m rows) ≡ kept m

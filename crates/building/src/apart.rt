@@ -1,5 +1,6 @@
 // What both lists begin with: refusal 6, and then generation, each by questions in a swift order.
 ghost use Rattle.std.specs.Prelude.{◌≡◌, true, ◌+◌, ◌≤◌, IfErr, IfOk, length};
+ghost use Rattle.rules.specs.Answers.{over};
 ghost use Rattle.rules.specs.Words.{is_order};
 ghost use Rattle.rules.specs.Method.{max_rows};
 ghost use Rattle.search.specs.Question.{found_as};
@@ -24,6 +25,16 @@ fn collision(lent: &Lent, swift: &[u32]) -> Option<Setting>
         b: lent.off,
         rows: lent.both,
     })
+}
+
+// Writes the rows over the first of the run. By index: the library's copy would be a call of C's memmove.
+fn copy_rows(rows: &[Row], kept: &mut [Row])
+    requires { length rows.now ≤ length kept.old }
+    ensures { kept.new ≡ over rows.now kept.old }
+{
+    for (k, row) in rows.iter().enumerate() {
+        kept[k] = *row;
+    }
 }
 
 // The first k generated rows of what is lent, and whether generation has no more; or the collision. The rows are kept behind those that
@@ -52,6 +63,6 @@ pub fn generate_apart(lent: &Lent, kept: &mut [Row], k: usize) -> Result<Generat
     };
     let on_rows = lent.on_rows();
     let ons = on_rows.len();
-    kept[..ons].copy_from_slice(on_rows);
+    copy_rows(on_rows, kept);
     Ok(generate(&off, swift, lent.on, kept, ons, k))
 }

@@ -16,7 +16,8 @@ pub struct Body<'a> {
 }
 
 impl Body<'_> {
-    // The next number, and on behind it; or that none is left.
+    // The next number, and on behind it; or that none is left. Inlined, as first_token is.
+    #[inline(always)]
     #[tactic(auto, using(crate::proofs::Following::numbers_first), unfolding(crate::specs::Bodies::prepend))]
     fn next(&mut self) -> Result<Option<i32>, Refusal>
         ensures { Follows self.old self.new result }

@@ -40,7 +40,8 @@ fn line_end(text: &[u8]) -> Option<&[u8]>
     text.strip_prefix(b"\n")
 }
 
-// The rest behind the header's line.
+// The rest behind the header's line. Inlined, as first_token is.
+#[inline(always)]
 #[tactic(auto, using(crate::proofs::Bytes::words))]
 fn header_end(text: &[u8]) -> Option<&[u8]>
     ensures { rest_of result ≡ header_end text.now }

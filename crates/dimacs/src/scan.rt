@@ -6,7 +6,8 @@ ghost use Rattle.dimacs.specs.Rests.{Tells, rest_of};
 pub fn is_blank(b: u8) -> bool
     ensures { result ≡ is_blank b }
 {
-    matches!(b, b' ' | b'\t' | b'\r' | b'\n')
+    // Two halves compile to one test of a bit, and a single match to a chain of branches.
+    matches!(b, b' ' | b'\t') | matches!(b, b'\r' | b'\n')
 }
 
 // All bytes of a kind at the front of a text, and what is left behind them; the kind is the one that the test tells.
@@ -20,7 +21,8 @@ pub fn split_front<F: Fn(u8) -> bool>(text: &[u8], is_kind: F) -> (&[u8], &[u8])
     text.split_at(n)
 }
 
-// The rest behind one or more spaces.
+// The rest behind one or more spaces. Inlined, as first_token is.
+#[inline(always)]
 #[tactic(auto, using(crate::proofs::Bytes::words))]
 pub fn after_spaces(text: &[u8]) -> Option<&[u8]>
     ensures { rest_of result ≡ after_spaces text.now }

@@ -32,7 +32,9 @@ fn token_of(v: u32, part: &[u8]) -> Token
     decimal_within(part, 0, v).map_or(Token::Other, |m| Token::Number(i64::from(m)))
 }
 
-// The first token of a text over the inputs 1..v, and what is left behind it; or that none is left.
+// The first token of a text over the inputs 1..v, and what is left behind it; or that none is left. Inlined, since each
+// answer would go through memory else.
+#[inline(always)]
 #[tactic(auto, using(crate::proofs::Steps::firsts))]
 pub fn first_token(v: u32, text: &[u8]) -> Option<(Token, &[u8])>
     ensures token { first_is result ≡ first_token v text.now }

@@ -28,7 +28,10 @@ impl<'a> Writer<'a> {
         ensures { Writes self.old new.now self.new }
     {
         let end = self.at + new.len();
-        self.text[self.at..end].copy_from_slice(new);
+        // Byte by byte: a copy between slices looks first whether they overlap, which costs more than the few bytes that are put.
+        for (k, byte) in new.iter().enumerate() {
+            self.text[self.at + k] = *byte;
+        }
         self.at = end;
     }
 
@@ -39,8 +42,15 @@ impl<'a> Writer<'a> {
         requires { HasRoom self.old (digits m) }
         ensures { Writes self.old (digits m) self.new }
     {
-        let last = [digit_of(m / 100), digit_of(m / 10), digit_of(m)];
-        self.put_bytes(&last[3 - digit_count(m)..]);
+        let ones = digit_of(m);
+        if m < 10 {
+            return self.put_bytes(&[ones]);
+        }
+        let tens = digit_of(m / 10);
+        if m < 100 {
+            return self.put_bytes(&[tens, ones]);
+        }
+        self.put_bytes(&[digit_of(m / 100), tens, ones]);
     }
 
     // A character for each of n variables, variable 1 first.

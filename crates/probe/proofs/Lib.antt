@@ -1,4 +1,6 @@
--- Arrays made element by element, the calls on records, and the search phase by itself.
-pub mod Arrays
+-- The calls on records, and the search phase by itself.
 pub mod Runs
 pub mod Phases
+pub mod Pairs
+pub mod Recent
+pub mod Finds

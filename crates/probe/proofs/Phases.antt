@@ -3,17 +3,18 @@ use mathlib.Core.Path.{◌≡◌, refl, sym, ap, ◌∙◌, fun_ext}
 use mathlib.Core.Bool.{Bool, true, not, cond, not-not, and-true}
 use mathlib.Core.List.{List, [], ◌∷◌, ◌++◌}
 use mathlib.Core.Option.{Option, none, some}
-use Prim.Native.Nat.{ℕ}
+use Prim.Native.Nat.{ℕ, ◌-◌, ◌*◌, ◌/◌, ◌≤◌}
 use native.Mathlib.Omega.{arith}
 use lib.IntN.{ℤ}
-use lib.ListN.{length, drop, length-append}
-use lib.Seq.{drop_at, drop-drop, take-append_seam}
+use lib.ListN.{length, take, drop, length-drop}
+use lib.Seq.{take-append_seam, take_at, take_all}
+use borrow.Rule.Slice.PartMut.{mid_of, put_mid}
 use native.Mathlib.Nat.{sub-zero}
 use Rattle.rules.specs.declared.Row.{Row}
 use Rattle.rules.specs.Words.{is_inputs, is_order, fixes, at_zero, at_one, full, without, in_some}
 use Rattle.rules.specs.Sheets.{satisfies, every_clause, in_reach, well_formed}
 use Rattle.rules.specs.Search.{smallest, found, or_else, holds_some}
-use Rattle.rules.specs.Method.{all, widen, widen_at}
+use Rattle.rules.specs.Method.{all, widen, widen_at, generated}
 use Rattle.rules.specs.Answers.{over}
 use Rattle.rules.proofs.Logic.{test}
 use Rattle.rules.proofs.Orders.{is-order}
@@ -22,7 +23,10 @@ use Rattle.sheets.specs.Barred.{barred}
 use Rattle.sheets.proofs.Bars.{barred-is}
 use Rattle.sheets.proofs.Clauses.{form-reach}
 use Rattle.search.specs.Question.{good, cares_within, Asked}
+use Rattle.sheets.proofs.Over.{over-length}
 use Rattle.search.proofs.Queries.{few-inputs, few-clauses, few-barred}
+use Rattle.probe.specs.Phase.{pairs_of, settings}
+use Rattle.probe.proofs.Pairs.{pairs-length, over-rest}
 
 -- Every row holds a setting.
 found_first : (a b : Option ℕ) → found a ≡ true → found (or_else a b) ≡ true
@@ -47,17 +51,6 @@ pub none-widens : (order : List ℕ) (s : ℕ) (r : Row) → r ≡ full (length 
 unfolding widen
 none-widens order s r e = e ∙ sym (none-goes order order (full (length order) s))
 
--- What is written over a run and over what it was written to is the same.
-pub over-again : (a b old : List Row) → over (a ++ b) (over a old) ≡ over (a ++ b) old
-over-again a b old =
-    let e = length-append a b in
-    ap (λ (t : List Row). (a ++ b) ++ t)
-    (ap (λ (m : ℕ). drop m (over a old)) e
-    ∙ sym (drop-drop (length b) (length a) (over a old))
-    ∙ ap (drop (length b)) (drop_at a (drop (length a) old) (length a) refl)
-    ∙ drop-drop (length b) (length a) old
-    ∙ ap (λ (m : ℕ). drop m old) (sym e))
-
 -- A sheet in place asks for the settings that satisfy it.
 pub asks-placed : (sheet : List ℤ) → good sheet [] [] ≡ satisfies sheet
 unfolding good satisfies every_clause in_some
@@ -80,6 +73,26 @@ pub asks-barred : (sheet : List ℤ) → good [] [] (barred sheet) ≡ satisfies
 unfolding good satisfies every_clause
 asks-barred sheet = fun_ext (λ s. ap not (barred-is sheet s) ∙ not-not (satisfies sheet s))
 
+-- The barred rows are written first, and what is asked by them behind them.
+pub words-behind : (order : List ℕ) (sheet : List ℤ) (cells blank : List Row) (old run rest : List ℕ) (ons : ℕ)
+    → cells ≡ over (barred sheet) blank → ons ≡ length (barred sheet) → 2 * ons ≤ length old → run ≡ over (pairs_of (take ons cells)) old
+    → rest ≡ over (pairs_of (generated order (good [] [] (take ons cells)) all (length (mid_of (2 * ons) (length run - 2 * ons) run) / 2))) (mid_of (2 * ons) (length run - 2 * ons) run)
+    → put_mid (2 * ons) (length run - 2 * ons) run rest ≡ over (pairs_of (barred sheet ++ settings order sheet (length old / 2 - length (barred sheet)))) old
+words-behind order sheet cells blank old run rest ons c o l r e =
+    let first : take ons cells ≡ barred sheet = ap (take ons) c ∙ take_at (barred sheet) _ ons (sym o) in
+    let run_is : run ≡ over (pairs_of (barred sheet)) old = r ∙ ap (λ (rows : List Row). over (pairs_of rows) old) first in
+    let p = pairs-length (barred sheet) in
+    let size : length run ≡ length old = ap length run_is ∙ over-length (pairs_of (barred sheet)) old (omega arith) in
+    let part = mid_of (2 * ons) (length run - 2 * ons) run in
+    let d = length-drop (2 * ons) run in
+    let whole : length part ≡ length (drop (2 * ons) run) = ap length (take_all (length run - 2 * ons) (drop (2 * ons) run) (omega arith)) in
+    let count : length part / 2 ≡ length old / 2 - length (barred sheet) = omega arith in
+    over-rest (barred sheet) (settings order sheet (length old / 2 - length (barred sheet))) old run rest (2 * ons) (ap (λ (m : ℕ). 2 * m) o) run_is
+    (e ∙ ap (λ (rows : List Row). over (pairs_of rows) part)
+    (ap (λ (rows : List Row). generated order (good [] [] rows) all (length part / 2)) first
+    ∙ ap (λ (on : ℕ → Bool). generated order on all (length part / 2)) (asks-barred sheet)
+    ∙ ap (λ (m : ℕ). generated order (satisfies sheet) all m) count))
+
 pub ruleset in_place = (asks-placed, placed-asked, sub-zero)
 
-pub ruleset behind_barred = (few-clauses, few-barred, asks-barred, take-append_seam, over-again)
+pub ruleset behind_barred = (few-clauses, few-barred, asks-barred, take-append_seam)

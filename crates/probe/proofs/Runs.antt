@@ -1,10 +1,11 @@
 -- Records in three runs of words: what is built of them, and what pruning leaves.
-use mathlib.Core.Path.{◌≡◌, refl, ap}
+use mathlib.Core.Path.{◌≡◌, refl, sym, ap, ◌∙◌}
 use mathlib.Core.Bool.{Bool, true, not}
 use mathlib.Core.List.{List, [], ◌∷◌, ◌++◌, map}
-use Prim.Native.Nat.{ℕ, zero, suc, ◌≤◌, ◌<◌}
+use Prim.Native.Nat.{ℕ, zero, suc, ◌+◌, ◌≤◌, ◌<◌}
 use native.Mathlib.Omega.{arith}
-use lib.ListN.{length, get_or, take, length-map}
+use lib.ListN.{length, get_or, take, set, length-map}
+use Rattle.std.proofs.lemmas.List.{take_all, take_more_set, take_more}
 use Rattle.rules.specs.declared.Row.{Row}
 use Rattle.rules.specs.Words.{is_inputs, natural}
 use Rattle.rules.specs.Method.{marks, all}
@@ -38,6 +39,20 @@ cube-at (c ∷ cs) [] ms i d l h = absurd (omega arith)
 cube-at (c ∷ cs) (v ∷ vs) [] i d l h = absurd (omega arith)
 cube-at (c ∷ cs) (v ∷ vs) (m ∷ ms) zero d l h = refl
 cube-at (c ∷ cs) (v ∷ vs) (m ∷ ms) (suc i) d l h = cube-at cs vs ms i d (omega arith, omega arith) (omega arith)
+
+-- one record more is built
+pub built_more : (cs vs ms : List ℕ) (i : ℕ) (cells : List Cube) (cube : Cube) → Long cs vs ms → i < length cs → i < length cells
+    → cube ≡ cube_of (get_or cs i 0) (get_or vs i 0) (get_or ms i 0) → take i cells ≡ take i (cubes_in cs vs ms)
+    → take (i + 1) (set cells i cube) ≡ take (i + 1) (cubes_in cs vs ms)
+built_more cs vs ms i cells cube l h here e before =
+    take_more_set cells i cube here
+    ∙ ap (λ (xs : List Cube). xs ++ (cube ∷ [])) before
+    ∙ rw (e ∙ sym (cube-at cs vs ms i cube l h)) (sym (take_more (cubes_in cs vs ms) i cube (omega (arith, cubes-length cs vs ms l))))
+
+-- and all of them are
+pub built_all : (cs vs ms : List ℕ) (i : ℕ) (cells : List Cube) → Long cs vs ms → length cs ≤ i → length cells ≤ i → take i cells ≡ take i (cubes_in cs vs ms)
+    → cells ≡ cubes_in cs vs ms
+built_all cs vs ms i cells l a b e = sym (take_all i cells b) ∙ e ∙ take_all i (cubes_in cs vs ms) (omega (arith, cubes-length cs vs ms l))
 
 pub record Back (cs vs ms : List ℕ) (records : List Cube) : Type 0 where
   pub rows : map row_of records ≡ rows_in cs vs

@@ -7,18 +7,26 @@ ghost use Rattle.probe.specs.Cubes.{cares_of, cubes_in, gone_marks, marks_of, se
 
 use crate::pack::count_reply;
 use records::{Cube, Pruned, pruned_array};
-use std::array;
 
 // A mark is set unless it is 0.
 fn cubes_in(care: [u32; 256], value: [u32; 256], marks: [u32; 256]) -> [Cube; 256]
     ensures value { result ≡ cubes_in care value marks }
     ensures sizes { (length care ≡ 256) × ((length value ≡ 256) × (length marks ≡ 256)) }
 {
-    array::from_fn(|i| Cube {
-        care: care[i],
-        value: value[i],
-        dropped: marks[i] != 0,
-    })
+    let mut records = [Cube {
+        care: 0,
+        value: 0,
+        dropped: false,
+    }; 256];
+    // By index: nothing is known of the cells that are written by a `zip` over `iter_mut`.
+    for (i, cube) in records.iter_mut().enumerate() {
+        *cube = Cube {
+            care: care[i],
+            value: value[i],
+            dropped: marks[i] != 0,
+        };
+    }
+    records
 }
 
 fn put_back(
@@ -31,9 +39,12 @@ fn put_back(
     ensures value_after { value.new ≡ values_of records }
     ensures dropped_after { dropped.new ≡ marks_of records }
 {
-    *care = records.map(|cube| cube.care);
-    *value = records.map(|cube| cube.value);
-    *dropped = records.map(|cube| u32::from(cube.dropped));
+    // By index, since it is three runs that are written.
+    for (i, cube) in records.iter().enumerate() {
+        care[i] = cube.care;
+        value[i] = cube.value;
+        dropped[i] = u32::from(cube.dropped);
+    }
 }
 
 // The records are built, pruned and written back whole; every mark comes back as 0 or 1.

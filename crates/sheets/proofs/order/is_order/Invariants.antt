@@ -1,6 +1,6 @@
-use Rattle.std.proofs.Common.{◌≡◌, ◌-◌, true}
+use Rattle.std.proofs.Common.{◌≡◌}
 use Rattle.rules.specs.Words.{each_once}
 use Rattle.sheets.proofs.order.is_order.Given as goal
 
 abbrev pub invariant-loop-v : goal.invariant-loop-v
-invariant-loop-v l = each_once (l.v - 1) l.order ≡ true
+invariant-loop-v l = each_once l.v l.order ≡ each_once l.n l.order

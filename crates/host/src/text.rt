@@ -5,7 +5,7 @@ ghost use Rattle.rules.specs.Calls.{host_write, packed};
 
 use crate::pack::packed;
 use crate::words::copy_words;
-use rules::{Inputs, List, WriteAnswer};
+use rules::{List, WriteAnswer};
 
 // Writes the text of the first `count` rows; the answer is its length.
 #[unsafe(no_mangle)]
@@ -23,12 +23,10 @@ pub extern "C" fn glimmeldoek_pla(
 }
 
 // The same, with the answer by its cases. The writer takes the runs in words, and looks at no more than these.
-#[tactic(auto, unfolding(rules::specs::Calls::write, rules::specs::Answers::judge))]
 fn write(n: u32, count: usize, care: &[u8], value: &[u8], text: &mut [u8]) -> WriteAnswer
     ensures result_value { write_reply result ≡ reply_of (λ t. length t ∷ []) (host_write n count care.now value.now (length text.old)) }
     ensures text_after { text.new ≡ after (λ t. t) (host_write n count care.now value.now (length text.old)) text.old }
 {
-    Inputs::of(n)?;
     let mut cares = [0; List::MAX_ROWS];
     let mut values = [0; List::MAX_ROWS];
     let most = count.min(List::MAX_ROWS);

@@ -7,7 +7,7 @@
  * A pointer may be null if its length is 0. The runs of one call must not overlap one another.
  *
  * Nothing is allocated and nothing is kept between calls: all working memory stands on the caller's stack. There
- * glimmeldoek_list was measured to need 3,872 bytes at most, and glimmeldoek_pla 2,168 (tests/host/stack.c, which holds
+ * glimmeldoek_list was measured to need 3,888 bytes at most, and glimmeldoek_pla 2,168 (tests/host/stack.c, which holds
  * both to 8,192).
  *
  * An answer is one number: the refusal's number times 2^32, plus a payload. The refusal's number is 0 for a result. A
